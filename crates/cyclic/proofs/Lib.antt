@@ -1,0 +1,5 @@
+pub mod Sums
+pub mod Powers
+pub mod Euclid
+pub mod Inverse
+pub mod Orders

@@ -1,0 +1,5 @@
+use Rattle.cyclic.proofs.Orders.{judge-theorem, odd-order, even-powers}
+use Rattle.cyclic.proofs.theorems.Needs as need
+
+pub returns : need.returns
+returns c = record { judge = judge-theorem; odd = odd-order; even-powers = even-powers }
