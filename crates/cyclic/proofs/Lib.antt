@@ -3,3 +3,4 @@ pub mod Powers
 pub mod Euclid
 pub mod Inverse
 pub mod Orders
+pub mod Units

@@ -1,0 +1,2 @@
+// Generator matrices: what they do to words, the judge that accepts or refuses one, and the record of a lawful one.
+pub mod matrix;
