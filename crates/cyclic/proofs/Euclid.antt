@@ -26,17 +26,25 @@ rest g x a b lt p q =
 flipped : (g : ℕ → ℕ) (x a b : ℕ) → Common g x a b → Common g x b a
 flipped g x a b c =
     record {
-      divisor = c .divisor; positive = c .positive; first = c .second; divides-first = c .divides-second;
-      second = c .first; divides-second = c .divides-first; unchanged = c .unchanged
+      divisor = c .divisor;
+      positive = c .positive;
+      first = c .second;
+      divides-first = c .divides-second;
+      second = c .first;
+      divides-second = c .divides-first;
+      unchanged = c .unchanged;
     }
 
 longer : (g : ℕ → ℕ) (x a b : ℕ) → a < b → Common g x a (b - a) → Common g x a b
 longer g x a b lt c =
     record {
-      divisor = c .divisor; positive = c .positive; first = c .first; divides-first = c .divides-first;
+      divisor = c .divisor;
+      positive = c .positive;
+      first = c .first;
+      divides-first = c .divides-first;
       second = c .first + c .second;
       divides-second = let whole : b ≡ a + (b - a) = omega arith in whole ∙ ap (λ m. m + (b - a)) (c .divides-first) ∙ ap (λ m. c .first * c .divisor + m) (c .divides-second) ∙ sym (add-mul (c .first) (c .second) (c .divisor));
-      unchanged = c .unchanged
+      unchanged = c .unchanged;
     }
 
 -- subtracting the smaller exponent from the larger, at most `turns` times

@@ -48,9 +48,9 @@ pub odd-order : OddOrder
 odd-order n N g wide more law =
     ⊎-elim (λ odd. odd)
     (λ even.
-        let m : ℕ = N / 2 in
-        let twice : N ≡ m + m = omega arith in
-        absurd (even-fails n m g wide (omega arith) (subst (λ k. Lawful n k g) twice law)))
+    let m : ℕ = N / 2 in
+    let twice : N ≡ m + m = omega arith in
+    absurd (even-fails n m g wide (omega arith) (subst (λ k. Lawful n k g) twice law)))
     (parity N)
   where
     parity : (k : ℕ) → (k % 2 ≡ 1) ⊎ (k % 2 ≡ 0)
@@ -98,12 +98,12 @@ module _ (n N : ℕ) (g : ℕ → ℕ) (wide : 0 < n) (more : 1 < N) (law : Lawf
       let under : i + (N - i) ≡ N = omega arith in
       let over : (N - i) + i ≡ N = omega arith in
       let there : (x : ℕ) → x < 2 ^ n → power g i (power g (N - i) x) ≡ x =
-              λ x w. sym (power-add g i (N - i) x) ∙ ap (λ m. power g m x) under ∙ law .returns x w in
+      λ x w. sym (power-add g i (N - i) x) ∙ ap (λ m. power g m x) under ∙ law .returns x w in
       let back : (x : ℕ) → x < 2 ^ n → power g (N - i) (power g i x) ≡ x =
-              λ x w. sym (power-add g (N - i) i x) ∙ ap (λ m. power g m x) over ∙ law .returns x w in
+      λ x w. sym (power-add g (N - i) i x) ∙ ap (λ m. power g m x) over ∙ law .returns x w in
       let below : z < N = omega arith in
       let factor : (x : ℕ) → x < 2 ^ n → power g i x ⊕ power g (i + z) x ≡ power g i (x ⊕ power g z x) =
-              λ x w. ap (λ y. power g i x ⊕ y) (power-add g i z x) ∙ sym (power-sums n g lin i x (power g z x) w (power-words n g lin z x w)) in
+      λ x w. ap (λ y. power g i x ⊕ y) (power-add g i z x) ∙ sym (power-sums n g lin i x (power g z x) w (power-words n g lin z x w)) in
       record {
         inverse = λ x. undo N g z (power g (N - i) x);
         words = λ x w. undo-words z pos below (power g (N - i) x) (power-words n g lin (N - i) x w);
@@ -116,15 +116,16 @@ module _ (n N : ℕ) (g : ℕ → ℕ) (wide : 0 < n) (more : 1 < N) (law : Lawf
             let v : y < 2 ^ n = power-words n g lin (N - i) x w in
             factor (undo N g z y) (undo-words z pos below y v)
             ∙ ap (power g i) (undo-after z pos below y v)
-            ∙ there x w
+            ∙ there x w;
       }
 
   swapped : (i j : ℕ) → Invertible n (λ x. power g i x ⊕ power g j x) → Invertible n (λ x. power g j x ⊕ power g i x)
   swapped i j v =
       record {
-        inverse = v .inverse; words = v .words;
+        inverse = v .inverse;
+        words = v .words;
         left = λ x w. ap (v .inverse) (xor-comm (power g j x) (power g i x)) ∙ v .left x w;
-        right = λ x w. xor-comm (power g j (v .inverse x)) (power g i (v .inverse x)) ∙ v .right x w
+        right = λ x w. xor-comm (power g j (v .inverse x)) (power g i (v .inverse x)) ∙ v .right x w;
       }
 
   ascending : (i j : ℕ) → i < j → j < N → Invertible n (λ x. power g i x ⊕ power g j x)
@@ -137,7 +138,7 @@ module _ (n N : ℕ) (g : ℕ → ℕ) (wide : 0 < n) (more : 1 < N) (law : Lawf
       record {
         returns = law .returns;
         sums = λ i j hi hj ne.
-            ⊎-elim (λ e. absurd (ne e)) (⊎-elim (λ lt. ascending i j lt hj) (λ gt. swapped j i (ascending j i gt hi))) (cases-order i j)
+            ⊎-elim (λ e. absurd (ne e)) (⊎-elim (λ lt. ascending i j lt hj) (λ gt. swapped j i (ascending j i gt hi))) (cases-order i j);
       }
 
 -- A word that g^m leaves unchanged goes to zero under 1 + g^m, and so does zero: an invertible map tells them apart.
@@ -149,7 +150,7 @@ test-by-sums n N g lin inv =
           let v : Invertible n (λ y. power g m y ⊕ power g 0 y) = inv .sums m 0 lt (omega arith) (λ e. omega arith) in
           let at : power g m x ⊕ x ≡ 0 = ap (λ y. y ⊕ x) fixed ∙ xor-self x in
           let at-zero : power g m 0 ⊕ 0 ≡ 0 = ap (λ y. y ⊕ 0) (power-zero n g lin m) in
-          sym (v .left x w) ∙ ap (v .inverse) (at ∙ sym at-zero) ∙ v .left 0 (pow-pos n)
+          sym (v .left x w) ∙ ap (v .inverse) (at ∙ sym at-zero) ∙ v .left 0 (pow-pos n);
     }
 
 pub judge-theorem : JudgeTheorem

@@ -31,12 +31,12 @@ agree n f h lf lh units x w = up-to n (omega arith) x w
     up-to (suc m) le y lt =
         ⊎-elim (λ below. up-to m (omega arith) y below)
         (λ above.
-            let parts = top-bit m y above lt in
-            let one : 2 ^ m < 2 ^ n = pow-lt {i = m} {j = n} (omega arith) in
-            let rest : y - 2 ^ m < 2 ^ n = omega (arith, parts .0) in
-            ap f (sym (parts .1)) ∙ lf .sums (2 ^ m) (y - 2 ^ m) one rest
-            ∙ ap (λ v. v ⊕ f (y - 2 ^ m)) (units m (omega arith)) ∙ ap (λ v. h (2 ^ m) ⊕ v) (up-to m (omega arith) (y - 2 ^ m) (parts .0))
-            ∙ sym (lh .sums (2 ^ m) (y - 2 ^ m) one rest) ∙ ap h (parts .1))
+        let parts = top-bit m y above lt in
+        let one : 2 ^ m < 2 ^ n = pow-lt {i = m} {j = n} (omega arith) in
+        let rest : y - 2 ^ m < 2 ^ n = omega (arith, parts .0) in
+        ap f (sym (parts .1)) ∙ lf .sums (2 ^ m) (y - 2 ^ m) one rest
+        ∙ ap (λ v. v ⊕ f (y - 2 ^ m)) (units m (omega arith)) ∙ ap (λ v. h (2 ^ m) ⊕ v) (up-to m (omega arith) (y - 2 ^ m) (parts .0))
+        ∙ sym (lh .sums (2 ^ m) (y - 2 ^ m) one rest) ∙ ap h (parts .1))
         (cases-lt y (2 ^ m))
 
 -- a linear map that leaves each unit word unchanged leaves every word unchanged
@@ -62,6 +62,7 @@ each-below (suc k) test t i lt =
     both-left : (a b : Bool) → T (both a b) → T a
     both-left true b t = tt
     both-left false b t = t
+
     both-right : (a b : Bool) → T (both a b) → T b
     both-right true b t = t
     both-right false b t = absurd t

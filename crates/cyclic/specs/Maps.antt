@@ -5,7 +5,6 @@ use Prim.Native.Nat.{ℕ, zero, suc, _+_, _*_, _%_, _^_, _<_}
 use lib.Bits.{bitXor}
 
 infixl 65 _⊕_
-
 -- the sum of two words: bitwise exclusive or
 abbrev pub _⊕_ : ℕ → ℕ → ℕ
 _⊕_ x y = bitXor x y

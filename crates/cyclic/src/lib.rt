@@ -6,5 +6,4 @@ pub fn theorems()
     ensures judge { λ _. ⌜ JudgeTheorem ⌝ }
     ensures odd { λ _. ⌜ OddOrder ⌝ }
     ensures even_powers { λ _. ⌜ EvenPowers ⌝ }
-{
-}
+{}

@@ -27,7 +27,7 @@ image-sum (row ∷ rows) x y =
     let p : ℕ = parity (bitAnd row x) in
     let q : ℕ = parity (bitAnd row y) in
     let low : parity (bitAnd row (x ⊕ y)) ≡ p ⊕ q =
-            ap parity (and-sum row x y) ∙ parity-sum (bitAnd row x) (bitAnd row y) ∙ sym (xor-bit p q (parity-below (bitAnd row x)) (parity-below (bitAnd row y))) in
+    ap parity (and-sum row x y) ∙ parity-sum (bitAnd row x) (bitAnd row y) ∙ sym (xor-bit p q (parity-below (bitAnd row x)) (parity-below (bitAnd row y))) in
     ap (λ w. w * 2 + parity (bitAnd row (x ⊕ y))) (image-sum rows x y)
     ∙ ap (λ w. (image rows x ⊕ image rows y) * 2 + w) low
     ∙ sym (xor-block 1 (image rows x) (image rows y) p q (parity-below (bitAnd row x)) (parity-below (bitAnd row y)))
@@ -55,15 +55,15 @@ combined-parity row (b ∷ bs) x =
     let p : ℕ = parity (bitAnd b x) in
     let pb : p < 2 = parity-below (bitAnd b x) in
     let split : bitAnd ((u * b) ⊕ c) x ≡ bitAnd (u * b) x ⊕ bitAnd c x =
-            and-comm ((u * b) ⊕ c) x ∙ and-sum x (u * b) c ∙ ap (λ w. w ⊕ bitAnd x c) (and-comm x (u * b)) ∙ ap (λ w. bitAnd (u * b) x ⊕ w) (and-comm x c) in
+    and-comm ((u * b) ⊕ c) x ∙ and-sum x (u * b) c ∙ ap (λ w. w ⊕ bitAnd x c) (and-comm x (u * b)) ∙ ap (λ w. bitAnd (u * b) x ⊕ w) (and-comm x c) in
     let left : parity (bitAnd ((u * b) ⊕ c) x) ≡ (min u p + parity (bitAnd (row / 2) i)) % 2 =
-            ap parity split ∙ parity-sum (bitAnd (u * b) x) (bitAnd c x)
-            ∙ ap (λ w. (w + parity (bitAnd c x)) % 2) (picked u b x (omega arith))
-            ∙ ap (λ w. (min u p + w) % 2) (combined-parity (row / 2) bs x) in
+    ap parity split ∙ parity-sum (bitAnd (u * b) x) (bitAnd c x)
+    ∙ ap (λ w. (w + parity (bitAnd c x)) % 2) (picked u b x (omega arith))
+    ∙ ap (λ w. (min u p + w) % 2) (combined-parity (row / 2) bs x) in
     let halves : bitAnd row (i * 2 + p) ≡ bitAnd (row / 2) i * 2 + min u p =
-            and-step row (i * 2 + p) ∙ ap (λ w. bitAnd (row / 2) w * 2 + min u ((i * 2 + p) % 2)) (digits-div i pb) ∙ ap (λ w. bitAnd (row / 2) i * 2 + min u w) (digits-mod i pb) in
+    and-step row (i * 2 + p) ∙ ap (λ w. bitAnd (row / 2) w * 2 + min u ((i * 2 + p) % 2)) (digits-div i pb) ∙ ap (λ w. bitAnd (row / 2) i * 2 + min u w) (digits-mod i pb) in
     let right : parity (bitAnd row (i * 2 + p)) ≡ (parity (bitAnd (row / 2) i) + min u p) % 2 =
-            ap parity halves ∙ parity-step (bitAnd (row / 2) i) (min u p) (omega arith) in
+    ap parity halves ∙ parity-step (bitAnd (row / 2) i) (min u p) (omega arith) in
     omega (arith, left, right)
 
 -- one row more, from below

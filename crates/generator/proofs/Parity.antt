@@ -46,6 +46,7 @@ parity-sum =
   where
     base : (b : ℕ) → parity b ≡ (parity 0 + parity b) % 2
     base b = omega (arith, parity-none)
+
     step : (a : ℕ) → ((b : ℕ) → parity ((a / 2) ⊕ b) ≡ (parity (a / 2) + parity b) % 2) → (b : ℕ) → parity (a ⊕ b) ≡ (parity a + parity b) % 2
     step a ih b =
         let half : (a ⊕ b) / 2 ≡ (a / 2) ⊕ (b / 2) = xor-shr a b 1 in

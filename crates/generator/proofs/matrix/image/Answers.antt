@@ -17,7 +17,7 @@ loop-i-holds c =
 
 -- what the rows above row i - 1 gave has room for one bit more
 room : (c : need.In-loop-i) → c .loop-i .bits < 2 ^ 15
-room c = 
+room c =
     let len : length (c .args .matrix) ≡ 16 = search needs in
     let rows : ℕ = length (drop (c .loop-i .i) (c .args .matrix)) in
     let few : rows ≤ 15 = omega (arith, length-drop (c .loop-i .i) (c .args .matrix), c .loop-i-test .taken) in

@@ -1,0 +1,70 @@
+-- The judge's verdict on a width n, an order N and the rows of a matrix.
+use mathlib.Core.Path.{_≡_}
+use mathlib.Core.Bool.{true}
+use mathlib.Core.List.{List}
+use Prim.Native.Nat.{ℕ, _<_, _≤_}
+use lib.ListN.{getD}
+use Rattle.std.specs.declared.result.Result.{Result}
+use Rattle.std.specs.declared.result.Result.the-variants.{Ok, Err}
+use Rattle.std.specs.Results.{isOk}
+use Rattle.refusals.specs.declared.Refusal.{Refusal}
+use Rattle.refusals.specs.declared.Refusal.the-variants.{SheetForm, Width, Order, Rows, NotCyclic, FixedWord, NoDrive, NoBlock, BufferSize, NotLive, DriveLive}
+use Rattle.cyclic.specs.Maps.{Returns, DivisorTest, InvertibleSums}
+use Rattle.generator.specs.declared.record.Generator.{Generator}
+use Rattle.generator.specs.Matrix.{image, Shaped, FailsAt}
+
+abbrev pub LawfulWidth : ℕ → Type 0
+LawfulWidth n = (1 ≤ n) × (n ≤ 16)
+
+abbrev pub LawfulOrder : ℕ → Type 0
+LawfulOrder N = (2 ≤ N) × (N ≤ 255)
+
+pub record Accepted (n N : ℕ) (rows : List ℕ) : Type 0 where
+  pub width : LawfulWidth n
+  pub order : LawfulOrder N
+  pub shape : Shaped n rows
+  pub test : DivisorTest n N (image rows)
+
+-- The condition of each refusal: its own, where none of the earlier ones holds.
+abbrev pub Refused : ℕ → ℕ → List ℕ → Refusal → Type 0
+Refused n N rows Width = LawfulWidth n → ⊥
+Refused n N rows Order = LawfulWidth n × (LawfulOrder N → ⊥)
+Refused n N rows Rows = LawfulWidth n × LawfulOrder N × (Shaped n rows → ⊥)
+Refused n N rows NotCyclic = LawfulWidth n × LawfulOrder N × Shaped n rows × (Returns n N (image rows) → ⊥)
+-- the least divisor at which the matrix fails
+Refused n N rows (FixedWord m) =
+    LawfulWidth n × LawfulOrder N × Shaped n rows × Returns n N (image rows)
+    × FailsAt n N (image rows) m × ((k : ℕ) → k < m → FailsAt n N (image rows) k → ⊥)
+Refused n N rows (SheetForm line) = ⊥
+Refused n N rows (NoDrive drive) = ⊥
+Refused n N rows (NoBlock block) = ⊥
+Refused n N rows BufferSize = ⊥
+Refused n N rows (NotLive drive block) = ⊥
+Refused n N rows (DriveLive drive) = ⊥
+
+abbrev pub Verdict : ℕ → ℕ → List ℕ → Result (Unit {0}) Refusal → Type 0
+Verdict n N rows (Ok done) = Accepted n N rows
+Verdict n N rows (Err refusal) = Refused n N rows refusal
+
+-- The record holds this width, this order and these rows; rows past the width are 0.
+pub record Holds (n N : ℕ) (rows : List ℕ) (record′ : Generator) : Type 0 where
+  pub width : record′ .width ≡ n
+  pub order : record′ .order ≡ N
+  pub rows-same : (k : ℕ) → getD (record′ .rows) k 0 ≡ getD rows k 0
+
+-- The record after a verdict: replaced whole on acceptance, and as it was on every refusal.
+abbrev pub Replaced : ℕ → ℕ → List ℕ → Result (Unit {0}) Refusal → Generator → Generator → Type 0
+Replaced n N rows (Ok done) before after = Holds n N rows after
+Replaced n N rows (Err refusal) before after = after ≡ before
+
+-- Within the widths and orders of the table, what a two-parity shelf asks of its matrix.
+pub record Suitable (n N : ℕ) (rows : List ℕ) : Type 0 where
+  pub width : LawfulWidth n
+  pub order : LawfulOrder N
+  pub shape : Shaped n rows
+  pub sums : InvertibleSums n N (image rows)
+
+-- The judge's theorem: it accepts the suitable matrices, and no others.
+pub record AcceptsExactly (n N : ℕ) (rows : List ℕ) (verdict : Result (Unit {0}) Refusal) : Type 0 where
+  pub only : isOk verdict ≡ true → Suitable n N rows
+  pub every : Suitable n N rows → isOk verdict ≡ true
