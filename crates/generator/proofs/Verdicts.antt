@@ -12,12 +12,11 @@ use Rattle.std.specs.declared.result.Result.{Result}
 use Rattle.std.specs.declared.result.Result.the-variants.{Ok, Err}
 use Rattle.std.specs.Results.{isOk}
 use Rattle.refusals.specs.declared.Refusal.{Refusal}
-use Rattle.refusals.specs.declared.Refusal.the-variants.{SheetForm, Width, Order, Rows, NotCyclic, FixedWord, NoDrive, NoBlock, BufferSize, NotLive, DriveLive}
 use Rattle.cyclic.specs.Maps.{power, Linear, Returns, OnlyZero, DivisorTest, InvertibleSums}
 use Rattle.cyclic.proofs.Powers.{power-words}
 use Rattle.cyclic.proofs.Orders.{judge-theorem}
 use Rattle.generator.specs.Matrix.{image, Shaped, Fixes, FailsAt}
-use Rattle.generator.specs.Judge.{LawfulWidth, LawfulOrder, Accepted, Refused, Verdict, Suitable, AcceptsExactly}
+use Rattle.generator.specs.Judge.{LawfulWidth, LawfulOrder, Accepted, Refused, width, order, shape, not-cyclic, fixed-word, Verdict, Suitable, AcceptsExactly}
 use Rattle.generator.proofs.Images.{image-sum}
 use Rattle.generator.proofs.Shapes.{image-same, shaped-linear}
 
@@ -73,17 +72,11 @@ accepted-suits n N rows a =
 
 -- no refusal fits a suitable matrix
 no-refusal : (n N : ℕ) (rows : List ℕ) (e : Refusal) → Refused n N rows e → Suitable n N rows → ⊥
-no-refusal n N rows Width r s = r (s .width)
-no-refusal n N rows Order r s = r .1 (s .order)
-no-refusal n N rows Rows r s = r .2 (s .shape)
-no-refusal n N rows NotCyclic r s = r .3 (s .sums .returns)
-no-refusal n N rows (FixedWord m) r s = fails-not n N (image rows) m (passes n N rows s) (r .4)
-no-refusal n N rows (SheetForm line) r s = r
-no-refusal n N rows (NoDrive drive) r s = r
-no-refusal n N rows (NoBlock block) r s = r
-no-refusal n N rows BufferSize r s = r
-no-refusal n N rows (NotLive drive block) r s = r
-no-refusal n N rows (DriveLive drive) r s = r
+no-refusal n N rows e (width is not) s = not (s .width)
+no-refusal n N rows e (order is w not) s = not (s .order)
+no-refusal n N rows e (shape is w o not) s = not (s .shape)
+no-refusal n N rows e (not-cyclic is w o sh not) s = not (s .sums .returns)
+no-refusal n N rows e (fixed-word m is w o sh r fails least) s = fails-not n N (image rows) m (passes n N rows s) fails
 
 -- the judge's theorem, from its verdict
 pub exactly : (n N : ℕ) (rows : List ℕ) (r : Result (Unit {0}) Refusal) → Verdict n N rows r → AcceptsExactly n N rows r

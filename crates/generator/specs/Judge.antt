@@ -8,7 +8,7 @@ use Rattle.std.specs.declared.result.Result.{Result}
 use Rattle.std.specs.declared.result.Result.the-variants.{Ok, Err}
 use Rattle.std.specs.Results.{isOk}
 use Rattle.refusals.specs.declared.Refusal.{Refusal}
-use Rattle.refusals.specs.declared.Refusal.the-variants.{SheetForm, Width, Order, Rows, NotCyclic, FixedWord, NoDrive, NoBlock, BufferSize, NotLive, DriveLive}
+use Rattle.refusals.specs.declared.Refusal.the-variants.{Width, Order, Rows, NotCyclic, FixedWord}
 use Rattle.cyclic.specs.Maps.{Returns, DivisorTest, InvertibleSums}
 use Rattle.generator.specs.declared.record.Generator.{Generator}
 use Rattle.generator.specs.Matrix.{image, Shaped, FailsAt}
@@ -26,21 +26,14 @@ pub record Accepted (n N : ℕ) (rows : List ℕ) : Type 0 where
   pub test : DivisorTest n N (image rows)
 
 -- The condition of each refusal: its own, where none of the earlier ones holds.
-abbrev pub Refused : ℕ → ℕ → List ℕ → Refusal → Type 0
-Refused n N rows Width = LawfulWidth n → ⊥
-Refused n N rows Order = LawfulWidth n × (LawfulOrder N → ⊥)
-Refused n N rows Rows = LawfulWidth n × LawfulOrder N × (Shaped n rows → ⊥)
-Refused n N rows NotCyclic = LawfulWidth n × LawfulOrder N × Shaped n rows × (Returns n N (image rows) → ⊥)
--- the least divisor at which the matrix fails
-Refused n N rows (FixedWord m) =
-    LawfulWidth n × LawfulOrder N × Shaped n rows × Returns n N (image rows)
-    × FailsAt n N (image rows) m × ((k : ℕ) → k < m → FailsAt n N (image rows) k → ⊥)
-Refused n N rows (SheetForm line) = ⊥
-Refused n N rows (NoDrive drive) = ⊥
-Refused n N rows (NoBlock block) = ⊥
-Refused n N rows BufferSize = ⊥
-Refused n N rows (NotLive drive block) = ⊥
-Refused n N rows (DriveLive drive) = ⊥
+pub data Refused (n N : ℕ) (rows : List ℕ) (e : Refusal) : Type 0 where
+  width : e ≡ Width → (LawfulWidth n → ⊥) → Refused n N rows e
+  order : e ≡ Order → LawfulWidth n → (LawfulOrder N → ⊥) → Refused n N rows e
+  shape : e ≡ Rows → LawfulWidth n → LawfulOrder N → (Shaped n rows → ⊥) → Refused n N rows e
+  not-cyclic : e ≡ NotCyclic → LawfulWidth n → LawfulOrder N → Shaped n rows → (Returns n N (image rows) → ⊥) → Refused n N rows e
+  -- m is the least divisor at which the matrix fails
+  fixed-word : (m : ℕ) → e ≡ FixedWord m → LawfulWidth n → LawfulOrder N → Shaped n rows → Returns n N (image rows)
+      → FailsAt n N (image rows) m → ((k : ℕ) → k < m → FailsAt n N (image rows) k → ⊥) → Refused n N rows e
 
 abbrev pub Verdict : ℕ → ℕ → List ℕ → Result (Unit {0}) Refusal → Type 0
 Verdict n N rows (Ok done) = Accepted n N rows

@@ -5,7 +5,7 @@ use Prim.Native.Nat.{ℕ}
 use lib.Chars.{codes}
 use Rattle.std.specs.Written.{decimal}
 use Rattle.refusals.specs.declared.Refusal.{Refusal}
-use Rattle.refusals.specs.declared.Refusal.the-variants.{SheetForm, Width, Order, Rows, NotCyclic, FixedWord, NoDrive, NoBlock, BufferSize, NotLive, DriveLive}
+use Rattle.refusals.specs.declared.Refusal.the-variants.{SheetForm, Width, Order, Rows, NotCyclic, FixedWord, NoDrive, NoBlock, BufferSize, NotLive, DriveLive, DoesNotFit, TooManyMissing}
 
 -- the refusal's number
 abbrev pub number : Refusal → ℕ
@@ -20,6 +20,8 @@ number (NoBlock block) = 8
 number BufferSize = 9
 number (NotLive drive block) = 10
 number (DriveLive drive) = 11
+number DoesNotFit = 12
+number TooManyMissing = 20
 
 -- what it carries, in order
 abbrev pub carried : Refusal → List ℕ
@@ -34,6 +36,8 @@ carried (NoBlock block) = block ∷ []
 carried BufferSize = []
 carried (NotLive drive block) = drive ∷ block ∷ []
 carried (DriveLive drive) = drive ∷ []
+carried DoesNotFit = []
+carried TooManyMissing = []
 
 -- the values as text, a space between two; 0 where there is none
 abbrev pub values : List ℕ → List ℕ

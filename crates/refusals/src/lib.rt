@@ -21,6 +21,9 @@ pub enum Refusal {
     BufferSize,
     NotLive { drive: u8, block: u32 },
     DriveLive { drive: u8 },
+    // Rack and code, and recovery.
+    DoesNotFit,
+    TooManyMissing,
 }
 
 impl Refusal {
@@ -40,6 +43,8 @@ impl Refusal {
             Refusal::BufferSize => 9,
             Refusal::NotLive { .. } => 10,
             Refusal::DriveLive { .. } => 11,
+            Refusal::DoesNotFit => 12,
+            Refusal::TooManyMissing => 20,
         }
     }
 }
@@ -61,7 +66,9 @@ pub impl fmt::Display for Refusal as RefusalDisplay {
             | Refusal::Order
             | Refusal::Rows
             | Refusal::NotCyclic
-            | Refusal::BufferSize => {
+            | Refusal::BufferSize
+            | Refusal::DoesNotFit
+            | Refusal::TooManyMissing => {
                 let none = 0u8;
                 write!(f, "refused {number} at {none}")
             }

@@ -6,7 +6,7 @@ use lib.ListN.{length, getD}
 use Rattle.std.proofs.shelf.Lists.{getD-past}
 use Rattle.cyclic.specs.Maps.{power, Linear, Returns, DivisorTest}
 use Rattle.generator.specs.Matrix.{image, Shaped, FailsAt}
-use Rattle.generator.specs.Judge.{Accepted, Holds}
+use Rattle.generator.specs.Judge.{Accepted, Holds, Refused, width, order, shape, not-cyclic, fixed-word}
 use Rattle.generator.proofs.Shapes.{shaped-linear}
 use Rattle.generator.proofs.Verdicts.{one-map, power-linear, once, often, none-fails}
 use Rattle.generator.proofs.judge.examine.Needs as need
@@ -21,15 +21,21 @@ is-identity-requires c κs =
       linear = power-linear (c .args .width) (c .args .order) (c .in-Some .matrix) (c .power .result) (c .if-width-gt16 .left) lin (c .power .ensures);
     }
 
+pub returns-then-width-lt1 : need.returns-then-width-lt1
+returns-then-width-lt1 c = width refl (λ h. omega (arith, c .then-width-lt1 .either))
+
+pub returns-then-order-lt2 : need.returns-then-order-lt2
+returns-then-order-lt2 c = order refl (c .if-width-lt1 .left, c .if-width-gt16 .left) (λ h. omega (arith, c .then-order-lt2 .either))
+
+pub returns-in-rest : need.returns-in-rest
+returns-in-rest c = shape refl (c .if-width-lt1 .left, c .if-width-gt16 .left) (c .if-order-lt2 .left, c .if-order-gt255 .left) (c .in-rest .ensures tt)
+
 pub returns-then-not-is-identity : need.returns-then-not-is-identity
-returns-then-not-is-identity c = (
-  (c .if-width-lt1 .left, c .if-width-gt16 .left),
-  (c .if-order-lt2 .left, c .if-order-gt255 .left),
-  c .in-Some .ensures tt .0,
-  λ back. c .if-not-is-identity .ensures tt
-      (once (c .args .width) (c .args .order) (c .in-Some .matrix) (c .power .result) (c .if-width-gt16 .left) (c .power .ensures)
-      (subst (Returns (c .args .width) (c .args .order)) (sym (one-map (c .in-Some .matrix) (c .args .rows .now) (c .in-Some .ensures tt .1))) back)),
-)
+returns-then-not-is-identity c =
+    not-cyclic refl (c .if-width-lt1 .left, c .if-width-gt16 .left) (c .if-order-lt2 .left, c .if-order-gt255 .left) (c .in-Some .ensures tt .0)
+    (λ back. c .if-not-is-identity .ensures tt
+    (once (c .args .width) (c .args .order) (c .in-Some .matrix) (c .power .result) (c .if-width-gt16 .left) (c .power .ensures)
+    (subst (Returns (c .args .width) (c .args .order)) (sym (one-map (c .in-Some .matrix) (c .args .rows .now) (c .in-Some .ensures tt .1))) back)))
 
 pub returns-in-Some-least-failing-divisor : need.returns-in-Some-least-failing-divisor
 returns-in-Some-least-failing-divisor c =
@@ -37,14 +43,11 @@ returns-in-Some-least-failing-divisor c =
     let N : ℕ = c .args .order in
     let same = one-map (c .in-Some .matrix) (c .args .rows .now) (c .in-Some .ensures tt .1) in
     let found = c .in-Some-least-failing-divisor .ensures tt in
-    let m : ℕ = c .in-Some-least-failing-divisor .divisor in (
-      (c .if-width-lt1 .left, c .if-width-gt16 .left),
-      (c .if-order-lt2 .left, c .if-order-gt255 .left),
-      c .in-Some .ensures tt .0,
-      subst (Returns n N) same (often n N (c .in-Some .matrix) (c .power .result) (c .if-width-gt16 .left) (c .power .ensures) (c .if-not-is-identity .ensures tt)),
-      subst (λ g. FailsAt n N g m) same (found .0),
-      subst (λ g. (k : ℕ) → k < m → FailsAt n N g k → ⊥) same (found .1),
-    )
+    let m : ℕ = c .in-Some-least-failing-divisor .divisor in
+    fixed-word m refl (c .if-width-lt1 .left, c .if-width-gt16 .left) (c .if-order-lt2 .left, c .if-order-gt255 .left) (c .in-Some .ensures tt .0)
+    (subst (Returns n N) same (often n N (c .in-Some .matrix) (c .power .result) (c .if-width-gt16 .left) (c .power .ensures) (c .if-not-is-identity .ensures tt)))
+    (subst (λ g. FailsAt n N g m) same (found .0))
+    (subst (λ g. (k : ℕ) → k < m → FailsAt n N g k → ⊥) same (found .1))
 
 pub ghost-result : need.ghost-result
 ghost-result c =
