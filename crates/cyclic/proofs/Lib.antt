@@ -4,3 +4,6 @@ pub mod Euclid
 pub mod Inverse
 pub mod Orders
 pub mod Units
+pub mod Shares
+pub mod Recover
+pub mod Filling
