@@ -8,6 +8,7 @@ use lib.Dec.{T, eqb, eqb→eq}
 use Rattle.std.proofs.shelf.Tests.{eq-eqb}
 use Rattle.cyclic.specs.Maps.{power, Returns, OnlyZero, DivisorTest}
 use Rattle.cyclic.proofs.Units.{all-below, each-below}
+use Rattle.generator.specs.Matrix.{FailsAt}
 
 either : {P : Type 0} (a b : Bool) → T (a || b) → (T a → P) → (T b → P) → P
 either true b t f h = f tt
@@ -42,3 +43,15 @@ divisors-decided n N g t m pos lt divides =
 
 pub test-decided : (n N : ℕ) (g : ℕ → ℕ) → T (returns-test n N g) → T (divisors-test n N g) → DivisorTest n N g
 test-decided n N g r d = record { returns = returns-decided n N g r; divisors = divisors-decided n N g d }
+
+-- no divisor below m fails
+abbrev pub least-test : ℕ → ℕ → (ℕ → ℕ) → ℕ → Bool
+least-test n N g m = all-below m (λ k. eqb k 0 || (not (eqb (N % k) 0) || only-zero-test n g k))
+
+pub least-decided : (n N : ℕ) (g : ℕ → ℕ) (m : ℕ) → T (least-test n N g m) → (k : ℕ) → k < m → FailsAt n N g k → ⊥
+least-decided n N g m t k lt f =
+    either (eqb k 0) (not (eqb (N % k) 0) || only-zero-test n g k)
+    (each-below m (λ i. eqb i 0 || (not (eqb (N % i) 0) || only-zero-test n g i)) t k lt)
+    (λ e. let none : k ≡ 0 = eqb→eq k 0 e in omega (arith, f .0))
+    (λ rest. either (not (eqb (N % k) 0)) (only-zero-test n g k) rest (λ e. differs (N % k) 0 e (f .2))
+        (λ z. let none : f .3 .0 ≡ 0 = only-zero-decided n k g z (f .3 .0) (f .3 .2) (f .3 .3) in omega (arith, f .3 .1)))
