@@ -4,5 +4,4 @@ ghost use Rattle.figures.specs.Judged.{JudgeFigures};
 // The call does nothing; its contract is the tables.
 pub fn figures_stand()
     ensures judge { λ _. ⌜ JudgeFigures ⌝ }
-{
-}
+{}

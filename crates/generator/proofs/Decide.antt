@@ -54,4 +54,4 @@ least-decided n N g m t k lt f =
     (each-below m (λ i. eqb i 0 || (not (eqb (N % i) 0) || only-zero-test n g i)) t k lt)
     (λ e. let none : k ≡ 0 = eqb→eq k 0 e in omega (arith, f .0))
     (λ rest. either (not (eqb (N % k) 0)) (only-zero-test n g k) rest (λ e. differs (N % k) 0 e (f .2))
-        (λ z. let none : f .3 .0 ≡ 0 = only-zero-decided n k g z (f .3 .0) (f .3 .2) (f .3 .3) in omega (arith, f .3 .1)))
+    (λ z. let none : f .3 .0 ≡ 0 = only-zero-decided n k g z (f .3 .0) (f .3 .2) (f .3 .3) in omega (arith, f .3 .1)))

@@ -1,16 +1,16 @@
 -- The shape of a matrix: which rows and bits it has, and what that says of its images.
 use mathlib.Core.Path.{_≡_, refl, sym, ap, subst, _∙_}
 use mathlib.Core.Bool.{Bool, true}
-use mathlib.Core.List.{List, [], _∷_}
+use mathlib.Core.List.{List, [], _∷_, _++_}
 use mathlib.Core.Logic.{⊎-elim}
 use Prim.Native.Nat.{ℕ, zero, suc, _+_, _*_, _-_, _^_, _<_, _≤_}
 use native.Mathlib.Nat.{pow-suc}
 use native.Mathlib.Omega.{arith}
 use lib.Bits.{bitAnd, and-zero-l}
 use lib.Dec.{T, eqb, ltb, eqb→eq, ltb→lt}
-use lib.ListN.{length, getD, drop}
+use lib.ListN.{length, getD, drop, replicate}
 use lib.Pow.{pow-pos}
-use Rattle.std.proofs.shelf.Lists.{getD-past, getD-drop}
+use Rattle.std.proofs.shelf.Lists.{getD-past, getD-drop, ext-getD, length-append, length-replicate, getD-append-left, getD-append-right, getD-replicate}
 use Rattle.std.proofs.shelf.Tests.{cases-lt}
 use Rattle.cyclic.specs.Maps.{Linear}
 use Rattle.cyclic.proofs.Units.{all-below, each-below}
@@ -59,3 +59,15 @@ narrow-linear n rows h = record { words = λ x w. image-narrow n rows h x; sums 
 
 pub shaped-linear : (n : ℕ) (rows : List ℕ) → Shaped n rows → Linear n (image rows)
 shaped-linear n rows s = subst (λ m. Linear m (image rows)) (s .0) (image-linear rows)
+
+-- sixteen rows that are those of a list, and 0 past its end, are that list and zeros
+pub padded : (n : ℕ) (matrix rows : List ℕ) → length matrix ≡ 16 → length rows ≡ n → n ≤ 16 → ((k : ℕ) → getD matrix k 0 ≡ getD rows k 0)
+    → matrix ≡ rows ++ replicate (16 - n) 0
+padded n matrix rows long count le same =
+    ext-getD 0 matrix (rows ++ replicate (16 - n) 0)
+    (long ∙ sym (length-append rows (replicate (16 - n) 0) ∙ ap (λ v. length rows + v) (length-replicate (16 - n) 0) ∙ omega arith))
+    (λ k lt. ⊎-elim
+    (λ below. same k ∙ sym (getD-append-left rows (replicate (16 - n) 0) 0 k below))
+    (λ above. same k ∙ getD-past rows k 0 above
+    ∙ sym (getD-append-right rows (replicate (16 - n) 0) n k 0 count (omega arith) ∙ getD-replicate (16 - n) (k - n) 0 0 (omega arith)))
+    (cases-lt k (length rows)))

@@ -1,9 +1,9 @@
 -- The judge's verdict on a width n, an order N and the rows of a matrix.
 use mathlib.Core.Path.{_≡_}
 use mathlib.Core.Bool.{true}
-use mathlib.Core.List.{List}
-use Prim.Native.Nat.{ℕ, _<_, _≤_}
-use lib.ListN.{getD}
+use mathlib.Core.List.{List, _++_}
+use Prim.Native.Nat.{ℕ, _-_, _<_, _≤_}
+use lib.ListN.{replicate}
 use Rattle.std.specs.declared.result.Result.{Result}
 use Rattle.std.specs.declared.result.Result.the-variants.{Ok, Err}
 use Rattle.std.specs.Results.{isOk}
@@ -39,11 +39,11 @@ abbrev pub Verdict : ℕ → ℕ → List ℕ → Result (Unit {0}) Refusal → 
 Verdict n N rows (Ok done) = Accepted n N rows
 Verdict n N rows (Err refusal) = Refused n N rows refusal
 
--- The record holds this width, this order and these rows; rows past the width are 0.
+-- The record holds this width, this order and these rows, and zeros in the place of the rest of its sixteen.
 pub record Holds (n N : ℕ) (rows : List ℕ) (record′ : Generator) : Type 0 where
   pub width : record′ .width ≡ n
   pub order : record′ .order ≡ N
-  pub rows-same : (k : ℕ) → getD (record′ .rows) k 0 ≡ getD rows k 0
+  pub rows-same : record′ .rows ≡ rows ++ replicate (16 - n) 0
 
 -- The record after a verdict: replaced whole on acceptance, and as it was on every refusal.
 abbrev pub Replaced : ℕ → ℕ → List ℕ → Result (Unit {0}) Refusal → Generator → Generator → Type 0

@@ -7,7 +7,8 @@ use Rattle.std.proofs.shelf.Lists.{getD-past}
 use Rattle.cyclic.specs.Maps.{power, Linear, Returns, DivisorTest}
 use Rattle.generator.specs.Matrix.{image, Shaped, FailsAt}
 use Rattle.generator.specs.Judge.{Accepted, Holds, Refused, width, order, shape, not-cyclic, fixed-word}
-use Rattle.generator.proofs.Shapes.{shaped-linear}
+use Rattle.generator.proofs.Shapes.{shaped-linear, padded}
+use borrow.Author.Needs.{needs}
 use Rattle.generator.proofs.Verdicts.{one-map, power-linear, once, often, none-fails}
 use Rattle.generator.proofs.judge.examine.Needs as need
 
@@ -85,5 +86,5 @@ returns c =
         shape = c .in-Some .ensures tt .0;
         test = subst (DivisorTest n N) same test;
       },
-      record { width = refl; order = refl; rows-same = c .in-Some .ensures tt .1 },
+      record { width = refl; order = refl; rows-same = padded n (c .in-Some .matrix) (c .args .rows .now) (search needs) (c .in-Some .ensures tt .0 .0) (c .if-width-gt16 .left) (c .in-Some .ensures tt .1) },
     )

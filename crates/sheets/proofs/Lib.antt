@@ -1,0 +1,8 @@
+pub mod Numbers
+pub mod Rows
+pub mod Steps
+pub mod Whole
+pub mod Unique
+pub mod Bounded
+pub mod Answer
+pub mod Judging
