@@ -1,0 +1,9 @@
+pub mod States
+pub mod Meaning
+pub mod Calls
+pub mod Layout
+pub mod LayoutSizes
+pub mod Flat
+pub mod Joined
+pub mod JoinedSizes
+pub mod Image
