@@ -7,3 +7,4 @@ pub mod Units
 pub mod Shares
 pub mod Recover
 pub mod Filling
+pub mod Horner

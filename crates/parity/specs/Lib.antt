@@ -1,0 +1,5 @@
+pub mod Blocks
+pub mod Codeword
+pub mod Encoding
+pub mod Sums
+pub mod WordMaps
