@@ -6,5 +6,4 @@ ghost use Rattle.figures.specs.Multiplied.{CodeFigures};
 pub fn figures_stand()
     ensures judge { λ _. ⌜ JudgeFigures ⌝ }
     ensures codes { λ _. ⌜ CodeFigures ⌝ }
-{
-}
+{}

@@ -1,0 +1,6 @@
+pub mod MarkBits
+pub mod Knowing
+pub mod Gathering
+pub mod Solving
+pub mod Rebuilding
+pub mod Answering

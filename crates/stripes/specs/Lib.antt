@@ -1,0 +1,5 @@
+pub mod Marks
+pub mod Touches
+pub mod Gathered
+pub mod Solved
+pub mod Recovery
