@@ -4,3 +4,5 @@ pub mod Gathering
 pub mod Solving
 pub mod Rebuilding
 pub mod Answering
+pub mod Packing
+pub mod Covers

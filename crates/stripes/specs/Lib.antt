@@ -3,3 +3,4 @@ pub mod Touches
 pub mod Gathered
 pub mod Solved
 pub mod Recovery
+pub mod Filling

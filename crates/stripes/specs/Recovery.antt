@@ -15,6 +15,7 @@ use Rattle.cyclic.specs.Columns.{Recovered}
 use Rattle.codes.specs.Blocks.{word, Multiplied}
 use Rattle.parity.specs.Blocks.{IsBlock, Added}
 use Rattle.parity.specs.Codeword.{Codewords, Fits}
+use Rattle.parity.specs.Encoding.{Encoded, block-of, stripe as encoded-stripe}
 use Rattle.stripes.specs.Marks.{marked}
 use Rattle.stripes.specs.Touches.{Known, columns-of}
 
@@ -79,3 +80,11 @@ RecoversCodeword n g m stripe column (Err e) missing′ buf′ = Unit {0}
 RecoversCodeword n g m stripe column (Ok done) missing′ buf′ =
     (w : ℕ → List ℕ) → Codewords n (m .drives - 2) g w → ((k : ℕ) → k < m .drives → IsBlock (w k))
     → ((k : ℕ) → k < m .drives → marked missing′ k ≡ false → m .block k stripe ≡ w k) → buf′ ≡ w column
+
+-- Encoding and then recovering gives the column back: so it is where the columns that are not missing afterwards are K data blocks and the P and Q
+-- that encoding made of them.
+abbrev pub RecoversEncoded : (n N : ℕ) → (ℕ → ℕ) → Meaning → ℕ → ℕ → Result (Unit {0}) Refusal → ℕ → List ℕ → Type 0
+RecoversEncoded n N g m stripe column (Err e) missing′ buf′ = Unit {0}
+RecoversEncoded n N g m stripe column (Ok done) missing′ buf′ =
+    (K : ℕ) (bytes p q p′ q′ : List ℕ) → m .drives ≡ K + 2 → Encoded n N g K bytes p q p′ q′ → ((k : ℕ) → k < K → IsBlock (block-of k bytes))
+    → ((k : ℕ) → k < m .drives → marked missing′ k ≡ false → m .block k stripe ≡ encoded-stripe K bytes p′ q′ k) → buf′ ≡ encoded-stripe K bytes p′ q′ column

@@ -3,7 +3,8 @@ ghost use mathlib.Core.Path.{_≡_};
 ghost use Prim.Native.Nat.{ℕ, _-_};
 ghost use lib.ListN.{length};
 ghost use Rattle.std.specs.Results.{Cases};
-ghost use Rattle.stripes.specs.Recovery.{Lawful, Unlawful, RecoverAnswer, RecoversCodeword};
+ghost use Rattle.stripes.specs.Filling.{Fillings};
+ghost use Rattle.stripes.specs.Recovery.{Lawful, Unlawful, RecoverAnswer, RecoversCodeword, RecoversEncoded};
 use crate::marks::stray_mark;
 use crate::rebuild::rebuild;
 use codes::Code;
@@ -55,6 +56,8 @@ pub fn recover<R: ReadingRack, C: Code>(
 ) -> (Result<(), Refusal>, u32)
     ensures answer { λ r. ⌜ RecoverAnswer (C·Code .bits (now (code .entry))) (C·Code .period (now (code .entry))) (C·Code .map (now (code .entry))) (R·ReadingRack .meaning (now (rack .entry))) stripe column missing (now (buf .entry)) (r .0) (r .1) (R·ReadingRack .meaning (now (rack .exit))) (now (buf .exit)) ⌝ }
     ensures codeword { λ r. ⌜ RecoversCodeword (C·Code .bits (now (code .entry))) (C·Code .map (now (code .entry))) (R·ReadingRack .meaning (now (rack .entry))) stripe column (r .0) (r .1) (now (buf .exit)) ⌝ }
+    ensures encoded { λ r. ⌜ RecoversEncoded (C·Code .bits (now (code .entry))) (C·Code .period (now (code .entry))) (C·Code .map (now (code .entry))) (R·ReadingRack .meaning (now (rack .entry))) stripe column (r .0) (r .1) (now (buf .exit)) ⌝ }
+    ensures fillings { λ _. ⌜ Fillings (C·Code .bits (now (code .entry))) (C·Code .period (now (code .entry))) (C·Code .map (now (code .entry))) ⌝ }
 {
     if let Err(refusal) = permit(rack, code, stripe, column, missing, buf.len()) {
         return (Err(refusal), missing);
