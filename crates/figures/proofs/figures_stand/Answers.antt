@@ -1,6 +1,12 @@
 use mathlib.Core.Path.{refl}
+use lib.Count.{ones, onesIn}
 use Rattle.figures.proofs.Judged.{judge-figures}
 use Rattle.figures.proofs.figures_stand.Needs as need
 
 pub returns : need.returns
-returns c = record { judge = judge-figures; codes = ((refl, (refl, (refl, tt))), (refl, tt)) }
+unfolding ones onesIn
+returns c = (
+  judge-figures,
+  ((refl, (refl, (refl, tt))), (refl, tt)),
+  ((record { p = refl; q = refl }, tt), (record { p = refl; q = refl }, tt)),
+)
