@@ -6,5 +6,4 @@ ghost use Rattle.figures.specs.Parities.{ParityFigures};
 // The call does nothing; its contract is the tables.
 pub fn figures_stand()
     ensures { λ _. ⌜ JudgeFigures × CodeFigures × ParityFigures ⌝ }
-{
-}
+{}
