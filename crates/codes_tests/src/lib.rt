@@ -14,7 +14,7 @@ mod tests {
     use refusals::RefusalDebug;
     use std::test::*;
 
-    // The first powers of 2 in the field of x^8 + x^4 + x^3 + x^2 + 1, which RAID-6 programs share.
+    // The first powers of 2 in the field of x^8 + x^4 + x^3 + x^2 + 1, as Intel's ISA-L makes them (vectors/powers.c).
     const OUTSIDE: [u16; 48] = [
         0x01,
         0x02,
