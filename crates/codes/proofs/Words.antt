@@ -79,7 +79,7 @@ word-16 i bytes =
     (λ t lt. let e : 16 * i + t ≡ 8 * (2 * i) + 0 + t = omega arith in ap (bit bytes) e)
     ∙ field 8 0 (2 * i) bytes (omega arith) ∙ ap (λ v. v % 256) (div-one (getD bytes (2 * i) 0)))
 
-number-below : (n : ℕ) (f : ℕ → ℕ) → ((t : ℕ) → f t < 2) → number n f < 2 ^ n
+pub number-below : (n : ℕ) (f : ℕ → ℕ) → ((t : ℕ) → f t < 2) → number n f < 2 ^ n
 number-below zero f h = lit< tt
 number-below (suc n) f h =
     let top : f n * 2 ^ n + number n f < 2 ^ n * 2 = mul-add-lt (f n) (2 ^ n) (number n f) 2 (h n) (number-below n f h) in

@@ -4,6 +4,7 @@ use Prim.Native.Nat.{ℕ, zero, suc, _^_, _<_}
 use lib.Bits.{xor-assoc, xor-comm, xor-self, xor-zero-l, xor-zero-r, xor-lt}
 use lib.Pow.{pow-pos}
 use Rattle.cyclic.specs.Maps.{_⊕_, sum}
+use Rattle.cyclic.proofs.Shares.{sum-below, sum-words-below}
 
 pub cancel : (x y : ℕ) → x ⊕ y ≡ 0 → x ≡ y
 cancel x y e = sym (xor-zero-r x) ∙ ap (λ w. x ⊕ w) (sym (xor-self y)) ∙ sym (xor-assoc x y y) ∙ ap (λ w. w ⊕ y) e ∙ xor-zero-l y
@@ -24,12 +25,10 @@ swap a b c d =
     ∙ sym (xor-assoc a c (b ⊕ d))
 
 pub sum-words : (n k : ℕ) (f : ℕ → ℕ) → ((t : ℕ) → f t < 2 ^ n) → sum k f < 2 ^ n
-sum-words n zero f h = pow-pos n
-sum-words n (suc k) f h = xor-lt n (sum k f) (f k) (sum-words n k f h) (h k)
+sum-words n k f h = sum-words-below n k f (λ t lt. h t)
 
 pub sum-same : (k : ℕ) (f h : ℕ → ℕ) → ((t : ℕ) → f t ≡ h t) → sum k f ≡ sum k h
-sum-same zero f h e = refl
-sum-same (suc k) f h e = ap (λ w. w ⊕ f k) (sum-same k f h e) ∙ ap (λ w. sum k h ⊕ w) (e k)
+sum-same k f h e = sum-below k f h (λ t lt. e t)
 
 pub sum-sum : (k : ℕ) (f h : ℕ → ℕ) → sum k (λ t. f t ⊕ h t) ≡ sum k f ⊕ sum k h
 sum-sum zero f h = refl

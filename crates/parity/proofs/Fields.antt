@@ -21,7 +21,7 @@ use Rattle.codes.specs.Blocks.{bit, number, word, FillsBlock, Multiplied}
 use Rattle.codes.proofs.Additive.{down, low, after, times, times-below, Additive}
 use Rattle.codes.proofs.Words.{number-same, number-split, bit-below, same-block}
 use Rattle.parity.specs.WordMaps.{combined, Spread, Prepares}
-use Rattle.parity.proofs.Additions.{number-below, word-below}
+use Rattle.codes.proofs.Words.{number-below, word-below}
 
 -- n bits of a number, from bit s on, are the bits s to s + n - 1
 pub number-field : (m s n : ℕ) (f : ℕ → ℕ) → ((t : ℕ) → f t < 2) → s + n ≤ m → number m f / 2 ^ s % 2 ^ n ≡ number n (λ t. f (s + t))

@@ -8,8 +8,7 @@ use native.Mathlib.Nat.{add-zero, add-suc, suc-add}
 use native.Mathlib.Omega.{arith}
 use lib.Bits.{xor-comm, xor-zero-l}
 use lib.Count.{ones}
-use lib.ListN.{getD, replicate}
-use Rattle.std.proofs.shelf.Lists.{getD-replicate, getD-past, length-replicate}
+use lib.ListN.{replicate}
 use lib.Pow.{pow-pos}
 use Rattle.std.specs.declared.option.Option.{Option}
 use Rattle.std.specs.declared.option.Option.the-variants.{Some, None}
@@ -19,7 +18,8 @@ use Rattle.cyclic.specs.Columns.{share}
 use Rattle.cyclic.proofs.Horner.{sum-front, horner}
 use Rattle.cyclic.proofs.Shares.{sum-below}
 use Rattle.codes.specs.Blocks.{word, FillsBlock}
-use Rattle.codes.proofs.Words.{word-below, word-zero}
+use Rattle.codes.proofs.Words.{word-below}
+use Rattle.parity.proofs.Additions.{zero-words}
 use Rattle.parity.specs.declared.sums.Sums.{Sums}
 use Rattle.parity.specs.Sums.{Absorbed, Skipped}
 use Rattle.stripes.specs.declared.gather.Lost.{Lost}
@@ -28,18 +28,13 @@ use Rattle.stripes.specs.Marks.{marked}
 use Rattle.stripes.specs.Gathered.{LostFrom, Joins, SumsFrom}
 use Rattle.stripes.proofs.MarkBits.{three-marks}
 
-zeros : (block : List ℕ) → block ≡ replicate 512 0 → (k : ℕ) → getD block k 0 ≡ 0
-zeros block e k =
-    ap (λ b. getD b k 0) e
-    ∙ ⊎-elim (λ lt. getD-replicate 512 k 0 0 lt) (λ ge. getD-past (replicate 512 0) k 0 (omega (arith, length-replicate {A = ℕ} 512 0))) (cases-lt k 512)
-
 -- no column has gone by
 pub sums-none : (n : ℕ) (g : ℕ → ℕ) (K : ℕ) (blocks : ℕ → List ℕ) (s : ℕ) (p q : List ℕ) → p ≡ replicate 512 0 → q ≡ replicate 512 0 → SumsFrom n g K K blocks s p q
 sums-none n g K blocks s p q ep eq =
     let none : K - K ≡ 0 = omega arith in
     record {
-      p-words = λ i l. word-zero n i p (zeros p ep) ∙ sym (ap (λ t. sum t (λ k. share (marked s) (λ j. word n (blocks j) i) (K + k))) none);
-      q-words = λ i l. word-zero n i q (zeros q eq) ∙ sym (ap (λ t. sum t (λ k. power g k (share (marked s) (λ j. word n (blocks j) i) (K + k)))) none);
+      p-words = λ i l. ap (λ b. word n b i) ep ∙ zero-words n i ∙ sym (ap (λ t. sum t (λ k. share (marked s) (λ j. word n (blocks j) i) (K + k))) none);
+      q-words = λ i l. ap (λ b. word n b i) eq ∙ zero-words n i ∙ sym (ap (λ t. sum t (λ k. power g k (share (marked s) (λ j. word n (blocks j) i) (K + k)))) none);
     }
 
 module _ (n : ℕ) (g : ℕ → ℕ) (lin : Linear n g) (c K : ℕ) (lt : c < K) (blocks : ℕ → List ℕ) where

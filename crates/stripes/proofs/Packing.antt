@@ -14,9 +14,8 @@ use Rattle.std.proofs.shelf.Counted.{length-map-counting, getD-map-counting}
 use Rattle.std.proofs.shelf.Lists.{getD-past}
 use Rattle.std.proofs.shelf.Tests.{cases-lt}
 use Rattle.codes.specs.Blocks.{bit, number, word, FillsBlock}
-use Rattle.codes.proofs.Words.{number-same}
+use Rattle.codes.proofs.Words.{number-same, number-below}
 use Rattle.parity.specs.Blocks.{IsBlock}
-use Rattle.parity.proofs.Additions.{number-below}
 use Rattle.parity.proofs.Fields.{number-field, positive}
 
 -- bit s of the words f of n bits, one after the other

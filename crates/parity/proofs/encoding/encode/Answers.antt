@@ -3,7 +3,7 @@ use Prim.Native.Nat.{ℕ, suc, _-_}
 use native.Mathlib.Omega.{arith}
 use Rattle.codes.specs.Blocks.{word}
 use Rattle.parity.specs.Encoding.{block-of}
-use Rattle.parity.proofs.Additions.{word-below}
+use Rattle.codes.proofs.Words.{word-below}
 use Rattle.parity.proofs.Absorbing.{Summed, summed-none, summed-absorb}
 use Rattle.parity.proofs.Encoded.{encoded}
 use Rattle.parity.proofs.encoding.encode.Needs as need
