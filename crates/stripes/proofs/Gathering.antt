@@ -4,9 +4,8 @@ use mathlib.Core.Bool.{Bool, true, false, cond}
 use mathlib.Core.List.{List, []}
 use mathlib.Core.Logic.{⊎-elim, _⊎_, inl, inr}
 use Prim.Native.Nat.{ℕ, zero, suc, _+_, _*_, _-_, _^_, _<_, _≤_}
-use native.Mathlib.Nat.{add-zero, add-suc, suc-add}
+use native.Mathlib.Nat.{suc-add}
 use native.Mathlib.Omega.{arith}
-use lib.Bits.{xor-comm, xor-zero-l}
 use lib.Count.{ones}
 use lib.ListN.{replicate}
 use lib.Pow.{pow-pos}
@@ -15,11 +14,10 @@ use Rattle.std.specs.declared.option.Option.the-variants.{Some, None}
 use Rattle.std.proofs.shelf.Tests.{cases-eq, cases-lt, cases-bool, cond-true, cond-false, false≢true}
 use Rattle.cyclic.specs.Maps.{_⊕_, sum, power, Linear}
 use Rattle.cyclic.specs.Columns.{share}
-use Rattle.cyclic.proofs.Horner.{sum-front, horner}
-use Rattle.cyclic.proofs.Shares.{sum-below}
+use Rattle.cyclic.proofs.Sums.{sum-same}
 use Rattle.codes.specs.Blocks.{word, FillsBlock}
 use Rattle.codes.proofs.Words.{word-below}
-use Rattle.parity.proofs.Additions.{zero-words}
+use Rattle.parity.proofs.Absorbing.{Summed, summed-none, summed-absorb, summed-skip}
 use Rattle.parity.specs.declared.sums.Sums.{Sums}
 use Rattle.parity.specs.Sums.{Absorbed, Skipped}
 use Rattle.stripes.specs.declared.gather.Lost.{Lost}
@@ -32,87 +30,59 @@ use Rattle.stripes.proofs.MarkBits.{three-marks}
 pub sums-none : (n : ℕ) (g : ℕ → ℕ) (K : ℕ) (blocks : ℕ → List ℕ) (s : ℕ) (p q : List ℕ) → p ≡ replicate 512 0 → q ≡ replicate 512 0 → SumsFrom n g K K blocks s p q
 sums-none n g K blocks s p q ep eq =
     let none : K - K ≡ 0 = omega arith in
+    let start = summed-none n g (λ j i. share (marked s) (λ t. word n (blocks t) i) j) K (record { p = p; q = q }) ep eq in
     record {
-      p-words = λ i l. ap (λ b. word n b i) ep ∙ zero-words n i ∙ sym (ap (λ t. sum t (λ k. share (marked s) (λ j. word n (blocks j) i) (K + k))) none);
-      q-words = λ i l. ap (λ b. word n b i) eq ∙ zero-words n i ∙ sym (ap (λ t. sum t (λ k. power g k (share (marked s) (λ j. word n (blocks j) i) (K + k)))) none);
+      p-words = λ i l. start .p i l ∙ sym (ap (λ t. sum t (λ k. share (marked s) (λ j. word n (blocks j) i) (K + k))) none);
+      q-words = λ i l. start .q i l ∙ sym (ap (λ t. sum t (λ k. power g k (share (marked s) (λ j. word n (blocks j) i) (K + k)))) none);
     }
 
 module _ (n : ℕ) (g : ℕ → ℕ) (lin : Linear n g) (c K : ℕ) (lt : c < K) (blocks : ℕ → List ℕ) where
-  col : ℕ → ℕ → ℕ
-  col i j = word n (blocks j) i
+  -- word i of column j, zero where it is missing
+  col : ℕ → ℕ → ℕ → ℕ
+  col s j i = share (marked s) (λ t. word n (blocks t) i) j
 
-  more : K - c ≡ suc (K - suc c)
-  more = omega arith
-
-  share-word : (s i j : ℕ) → share (marked s) (col i) j < 2 ^ n
+  col-word : (s j i : ℕ) → col s j i < 2 ^ n
   unfolding col
-  share-word s i j =
-      ⊎-elim (λ m. subst (λ v. v < 2 ^ n) (sym (cond-true (marked s j) 0 (col i j) m)) (pow-pos n))
-      (λ m. subst (λ v. v < 2 ^ n) (sym (cond-false (marked s j) 0 (col i j) m)) (word-below n (blocks j) i)) (cases-bool (marked s j))
+  col-word s j i =
+      ⊎-elim (λ m. subst (λ v. v < 2 ^ n) (sym (cond-true (marked s j) 0 (word n (blocks j) i) m)) (pow-pos n))
+      (λ m. subst (λ v. v < 2 ^ n) (sym (cond-false (marked s j) 0 (word n (blocks j) i) m)) (word-below n (blocks j) i)) (cases-bool (marked s j))
 
-  -- column c first, and then the columns above it
-  front-p : (s i : ℕ) → sum (K - c) (λ k. share (marked s) (col i) (c + k)) ≡ share (marked s) (col i) c ⊕ sum (K - suc c) (λ k. share (marked s) (col i) (suc c + k))
-  front-p s i =
-      ap (λ t. sum t (λ k. share (marked s) (col i) (c + k))) more
-      ∙ sum-front (K - suc c) (λ k. share (marked s) (col i) (c + k))
-      ∙ ap (λ v. share (marked s) (col i) v ⊕ sum (K - suc c) (λ k. share (marked s) (col i) (c + suc k))) (add-zero c)
-      ∙ ap (λ v. share (marked s) (col i) c ⊕ v)
-      (sum-below (K - suc c) (λ k. share (marked s) (col i) (c + suc k)) (λ k. share (marked s) (col i) (suc c + k)) (λ k l. ap (share (marked s) (col i)) (add-suc c k ∙ sym (suc-add c k))))
+  -- the columns above c, and those from c up
+  above : (C s : ℕ) (sums : Sums) → C ≡ suc c → SumsFrom n g C K blocks s (sums .p) (sums .q) → Summed n g (col s) (suc c) (K - suc c) sums
+  unfolding col
+  above C s sums is h = let h′ = subst (λ v. SumsFrom n g v K blocks s (sums .p) (sums .q)) is h in record { p = h′ .p-words; q = h′ .q-words }
 
-  front-q : (s i : ℕ) → sum (K - c) (λ k. power g k (share (marked s) (col i) (c + k)))
-      ≡ share (marked s) (col i) c ⊕ g (sum (K - suc c) (λ k. power g k (share (marked s) (col i) (suc c + k))))
-  front-q s i =
-      ap (λ t. sum t (λ k. power g k (share (marked s) (col i) (c + k)))) more
-      ∙ horner n g lin (K - suc c) (λ k. share (marked s) (col i) (c + k)) (λ k. share-word s i (c + k))
-      ∙ ap (λ v. share (marked s) (col i) v ⊕ g (sum (K - suc c) (λ k. power g k (share (marked s) (col i) (c + suc k))))) (add-zero c)
-      ∙ ap (λ v. share (marked s) (col i) c ⊕ g v)
-      (sum-below (K - suc c) (λ k. power g k (share (marked s) (col i) (c + suc k))) (λ k. power g k (share (marked s) (col i) (suc c + k)))
-      (λ k l. ap (λ v. power g k (share (marked s) (col i) v)) (add-suc c k ∙ sym (suc-add c k))))
+  from-c : (s : ℕ) (sums : Sums) → Summed n g (col s) c (suc (K - suc c)) sums → SumsFrom n g c K blocks s (sums .p) (sums .q)
+  unfolding col
+  from-c s sums h =
+      let count : suc (K - suc c) ≡ K - c = omega arith in
+      let h′ = subst (λ m. Summed n g (col s) c m sums) count h in
+      record { p-words = h′ .p; q-words = h′ .q }
 
   -- the column answers
   pub absorbs : (C s : ℕ) (before after : Sums) (block : List ℕ) → C ≡ suc c → FillsBlock n → marked s c ≡ false → block ≡ blocks c
       → SumsFrom n g C K blocks s (before .p) (before .q) → Absorbed n g before block after → SumsFrom n g c K blocks s (after .p) (after .q)
   unfolding col
   absorbs C s before after block is fills here same sums a =
-      let there : (i : ℕ) → word n block i ≡ share (marked s) (col i) c = λ i. ap (λ b. word n b i) same ∙ sym (cond-false (marked s c) 0 (col i c) here) in
-      record {
-        p-words = λ i l.
-            a .p .words n i ∙ ap (λ v. v ⊕ word n block i) (sums .p-words i l ∙ ap (λ v. sum (K - v) (λ k. share (marked s) (col i) (v + k))) is)
-            ∙ xor-comm (sum (K - suc c) (λ k. share (marked s) (col i) (suc c + k))) (word n block i)
-            ∙ ap (λ v. v ⊕ sum (K - suc c) (λ k. share (marked s) (col i) (suc c + k))) (there i)
-            ∙ sym (front-p s i);
-        q-words = λ i l.
-            a .q fills i l ∙ ap (λ v. g v ⊕ word n block i) (sums .q-words i l ∙ ap (λ v. sum (K - v) (λ k. power g k (share (marked s) (col i) (v + k)))) is)
-            ∙ xor-comm (g (sum (K - suc c) (λ k. power g k (share (marked s) (col i) (suc c + k))))) (word n block i)
-            ∙ ap (λ v. v ⊕ g (sum (K - suc c) (λ k. power g k (share (marked s) (col i) (suc c + k))))) (there i)
-            ∙ sym (front-q s i);
-      }
+      from-c s after
+      (summed-absorb n g lin fills (col s) (col-word s) c (K - suc c) before after block (above C s before is sums) a
+      (λ i l. ap (λ b. word n b i) same ∙ sym (cond-false (marked s c) 0 (word n (blocks c) i) here)))
 
   -- the column is missing
   pub skips : (C s s′ : ℕ) (before after : Sums) → C ≡ suc c → FillsBlock n → marked s′ c ≡ true → ((k : ℕ) → (k ≡ c → ⊥) → marked s′ k ≡ marked s k)
       → SumsFrom n g C K blocks s (before .p) (before .q) → Skipped n g before after → SumsFrom n g c K blocks s′ (after .p) (after .q)
   unfolding col
   skips C s s′ before after is fills gone others sums a =
-      let none : (i : ℕ) → share (marked s′) (col i) c ≡ 0 = λ i. cond-true (marked s′ c) 0 (col i c) gone in
-      let same : (i k : ℕ) → share (marked s) (col i) (suc c + k) ≡ share (marked s′) (col i) (suc c + k) =
-      λ i k. ap (λ m. Cond m (col i (suc c + k))) (sym (others (suc c + k) (λ e. omega (arith, suc-add c k)))) in
-      record {
-        p-words = λ i l.
-            ap (λ b. word n b i) (a .p) ∙ sums .p-words i l ∙ ap (λ v. sum (K - v) (λ k. share (marked s) (col i) (v + k))) is
-            ∙ sum-below (K - suc c) (λ k. share (marked s) (col i) (suc c + k)) (λ k. share (marked s′) (col i) (suc c + k)) (λ k l′. same i k)
-            ∙ sym (xor-zero-l (sum (K - suc c) (λ k. share (marked s′) (col i) (suc c + k))))
-            ∙ ap (λ v. v ⊕ sum (K - suc c) (λ k. share (marked s′) (col i) (suc c + k))) (sym (none i))
-            ∙ sym (front-p s′ i);
-        q-words = λ i l.
-            a .q .words fills i l ∙ ap g (sums .q-words i l ∙ ap (λ v. sum (K - v) (λ k. power g k (share (marked s) (col i) (v + k)))) is
-            ∙ sum-below (K - suc c) (λ k. power g k (share (marked s) (col i) (suc c + k))) (λ k. power g k (share (marked s′) (col i) (suc c + k))) (λ k l′. ap (power g k) (same i k)))
-            ∙ sym (xor-zero-l (g (sum (K - suc c) (λ k. power g k (share (marked s′) (col i) (suc c + k))))))
-            ∙ ap (λ v. v ⊕ g (sum (K - suc c) (λ k. power g k (share (marked s′) (col i) (suc c + k))))) (sym (none i))
-            ∙ sym (front-q s′ i);
-      }
-    where
-      Cond : Bool → ℕ → ℕ
-      Cond b x = cond b 0 x
+      let so-far = above C s before is sums in
+      let same : (t i : ℕ) → col s (suc c + t) i ≡ col s′ (suc c + t) i =
+      λ t i. ap (λ m. cond m 0 (word n (blocks (suc c + t)) i)) (sym (others (suc c + t) (λ e. omega (arith, suc-add c t)))) in
+      from-c s′ after
+      (summed-skip n g lin fills (col s′) (col-word s′) c (K - suc c) before after
+      (record {
+        p = λ i l. so-far .p i l ∙ sum-same (K - suc c) (λ t. col s (suc c + t) i) (λ t. col s′ (suc c + t) i) (λ t. same t i);
+        q = λ i l. so-far .q i l ∙ sum-same (K - suc c) (λ t. power g t (col s (suc c + t) i)) (λ t. power g t (col s′ (suc c + t) i)) (λ t. ap (power g t) (same t i));
+      })
+      a (λ i l. cond-true (marked s′ c) 0 (word n (blocks c) i) gone))
 
   -- the columns lost, when this one is not
   pub keeps : (C s : ℕ) (lost : Lost) → C ≡ suc c → marked s c ≡ false → LostFrom C K s lost → LostFrom c K s lost
