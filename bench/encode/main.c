@@ -30,6 +30,8 @@ static void isal_byte(uint8_t *p, uint8_t *q) {
     vectors[K] = p;
     vectors[K + 1] = q;
     if (pq_gen(K + 2, BLOCK, vectors) != 0) exit(1);
+    // ISA-L leaves the upper halves of the vector registers in use, which would slow down every loop after it that is compiled for any x86-64
+    __asm__ volatile("vzeroupper");
 }
 
 typedef void run(uint8_t *p, uint8_t *q);

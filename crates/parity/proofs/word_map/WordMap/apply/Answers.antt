@@ -1,35 +1,22 @@
-use mathlib.Core.Path.{_≡_, sym, ap, subst, _∙_}
+use mathlib.Core.Path.{_≡_}
 use mathlib.Core.List.{List}
-use Prim.Native.Nat.{ℕ, _+_, _*_, _/_, _%_, _<_}
-use native.Mathlib.Omega.{arith}
-use lib.ListN.{getD, set}
-use Rattle.std.proofs.shelf.Bits.{mod-below}
-use Rattle.codes.proofs.Passes.{PairsDone, pairs-more}
-use Rattle.parity.specs.WordMaps.{combined}
-use Rattle.parity.proofs.Fields.{units-all, set-below}
+use Prim.Native.Nat.{ℕ, _<_}
+use lib.ListN.{getD}
+use Rattle.parity.proofs.Bytes.{bytes-below, bytes-units}
+use Rattle.parity.proofs.Fields.{units-all}
 use Rattle.parity.proofs.word_map.WordMap.apply.Needs as need
 
-pub loop-i-again : need.loop-i-again
-loop-i-again c =
-    let i : ℕ = c .loop-i .i in
-    let block : List ℕ = c .loop-i .block in
-    let f : ℕ → ℕ = combined (c .args .self .now .images) in
-    let w : ℕ = c .image .result in
-    subst
-    (λ bytes.
-    PairsDone f (c .args .block .now) (set (set block (2 * i) (getD bytes 0 0)) (2 * i + 1) (getD bytes 1 0)) (i + 1)
-    × ((k : ℕ) → getD (set (set block (2 * i) (getD bytes 0 0)) (2 * i + 1) (getD bytes 1 0)) k 0 < 256))
-    (sym (c .to-le-bytes .ensures)) (
-      pairs-more f (c .args .block .now) block i (omega (arith, c .told-block, c .loop-i-test .taken)) (c .loop-i .inv .0)
-          w (c .image .ok)
-          (c .image .ensures ∙ ap f (c .units-of-units .ensures i (c .loop-i-test .taken))),
-      set-below 256 (set block (2 * i) (w % 256)) (2 * i + 1) (w / 256 % 256) (mod-below (w / 256) 256 (omega arith))
-          (set-below 256 block (2 * i) (w % 256) (mod-below w 256 (omega arith)) (c .loop-i .inv .1)),
-    )
+pub returns-in-Some : need.returns-in-Some
+returns-in-Some c n f ready =
+    let images : List ℕ = c .args .self .now .images in
+    let before : List ℕ = c .args .block .now in
+    let after : List ℕ = c .apply-bytes .last .block in
+    let below : (k : ℕ) → getD after k 0 < 256 =
+    bytes-below (c .in-Some .images) images (c .in-Some .ensures tt) before after (c .apply-bytes .array-long) (c .apply-bytes .ensures) in
+    units-all images n f ready before after (c .told-block) (c .apply-bytes .array-long) (c .fits-block) below
+    (bytes-units (c .in-Some .images) images (c .in-Some .ensures tt) before after (c .fits-block) below (c .apply-bytes .ensures))
 
-pub returns : need.returns
-returns c n f ready =
-    let end : c .loop-i .i ≡ 256 = omega (arith, c .loop-i .kept .i-end, c .loop-i-test .left) in
-    let all = c .loop-i .inv .0 in
-    units-all (c .args .self .now .images) n f ready (c .args .block .now) (c .loop-i .block) (c .told-block) (all .long ∙ c .told-block)
-    (c .fits-block) (c .loop-i .inv .1) (λ u lt. all .done u (omega arith))
+pub returns-in-None : need.returns-in-None
+returns-in-None c n f ready =
+    units-all (c .args .self .now .images) n f ready (c .args .block .now) (c .apply-units .last .block) (c .told-block) (c .apply-units .array-long)
+    (c .fits-block) (c .apply-units .ensures .bytes) (c .apply-units .ensures .units)
