@@ -1,6 +1,7 @@
 // A rack that is dead from the start: every drive has failed, and a drive that is fitted fails at once.
 ghost use mathlib.Core.Path.{_≡_};
-ghost use Prim.Native.Nat.{min};
+ghost use Prim.Native.Nat.{ℕ, min};
+ghost use Rattle.racks.specs.declared.DriveState.the-variants.{Failed};
 ghost use Rattle.racks.specs.Calls.{Refused};
 ghost use Rattle.test_racks.specs.Dead.{dead-meaning, dead-sized};
 use racks::DriveState;
@@ -20,6 +21,7 @@ impl DeadRack {
     pub fn new(drives: u8, blocks: u32) -> DeadRack
         ensures drives { λ r. ⌜ dead-meaning r .drives ≡ min drives 32 ⌝ }
         ensures blocks { λ r. ⌜ dead-meaning r .blocks ≡ min blocks 65536 ⌝ }
+        ensures states { λ r. ⌜ ((d : ℕ) → dead-meaning r .state d ≡ Failed) ⌝ }
     {
         DeadRack {
             drives,

@@ -1,4 +1,5 @@
 // A rack whose drives fail at chosen touches, around any other rack.
+ghost use Prim.Native.Nat.{_+_, _%_, _^_};
 ghost use mathlib.Core.Path.{_≡_};
 ghost use mathlib.Core.Bool.{false};
 ghost use lib.Dec.{eqb};
@@ -55,6 +56,8 @@ impl<'a, R: ReadingRack> FailingRack<'a, R> {
     fn falters(&mut self) -> bool
         ensures inner { λ _. ⌜ now (self .exit) .inner ≡ now (self .entry) .inner ⌝ }
         ensures failed { λ _. ⌜ now (self .exit) .failed ≡ now (self .entry) .failed ⌝ }
+        ensures at { λ _. ⌜ now (now (self .exit) .at) ≡ now (now (self .entry) .at) ⌝ }
+        ensures counted { λ _. ⌜ now (self .exit) .touches ≡ (now (self .entry) .touches + 1) % 2 ^ 32 ⌝ }
         ensures chosen { λ r. ⌜ Some-of (λ n here. here ≡ eqb n (now (self .entry) .touches)) (now (now (self .entry) .at)) r ⌝ }
     {
         let touch = self.touches;
