@@ -18,11 +18,11 @@ room c =
     let few : rows ≤ 15 = omega (arith, length-drop c.loop-i.i c.args.matrix, c.loop-i-test.true) in
     omega (arith, c.loop-i.invariant, image_below (drop c.loop-i.i c.args.matrix) c.args.word, pow_mono few)
 
-pub overflow-mul-bits : goal.overflow-mul-bits
-overflow-mul-bits c = let r = room c in search rules
+pub overflow_mul-bits : goal.overflow_mul-bits
+overflow_mul-bits c = let r = room c in search rules
 
-pub overflow-add-bits : goal.overflow-add-bits
-overflow-add-bits c = let r = room c in search rules
+pub overflow_add-bits : goal.overflow_add-bits
+overflow_add-bits c = let r = room c in search rules
 
 pub loop-i-preserved : goal.loop-i-preserved
 loop-i-preserved c =

@@ -28,9 +28,9 @@ loop-column-preserved g c =
     subst (λ m. Summed n (code.map self) column (at - 1) m c.absorb.new.self) count
     (summed_absorb n (code.map self) (g.met.C.Code.lawful self).linear c.if-not-fits.ensures.width column
     (λ j i. word_below n (block_of j c.args.«data».now) i) (at - 1) (c.args.k - at)
-    c.loop-column.sums c.absorb.new.self c.block-of-block.result
+    c.loop-column.sums c.absorb.new.self c.block_of-block.result
     (subst (λ k. Summed n (code.map self) column k (c.args.k - at) c.loop-column.sums) top c.loop-column.invariant)
-    c.absorb.ensures (λ i inside. ap (λ b. word n b i) c.block-of-block.ensures))
+    c.absorb.ensures (λ i inside. ap (λ b. word n b i) c.block_of-block.ensures))
 
 pub returns : goal.returns
 returns g c =
@@ -42,10 +42,10 @@ returns g c =
     let end : c.loop-column.column ≡ 0 = omega (arith, c.loop-column-test.false) in
     let count : K - 0 ≡ K = omega arith in
     encoded n (code.period self) (code.map self) K c.args.«data».now c.args.p.now c.args.q.now
-    c.copy-from-slice.new.self c.copy-from-slice-2.new.self c.loop-column.sums c.if-not-fits.ensures
+    c.copy_from_slice.new.self c.copy_from_slice-2.new.self c.loop-column.sums c.if-not-fits.ensures
     record { data_size = c.if-data-k.false; p_size = c.if-p-ne512.false; q_size = c.if-q-ne512.false }
-    record { long = c.copy-from-slice.ensures.len ∙ c.if-p-ne512.false; bytes = λ k. (c.type-inv.p k).fits }
-    record { long = c.copy-from-slice-2.ensures.len ∙ c.if-q-ne512.false; bytes = λ k. (c.type-inv.q k).fits }
-    c.copy-from-slice.ensures.after c.copy-from-slice-2.ensures.after
+    record { long = c.copy_from_slice.ensures.len ∙ c.if-p-ne512.false; bytes = λ k. (c.type_inv.p k).fits }
+    record { long = c.copy_from_slice-2.ensures.len ∙ c.if-q-ne512.false; bytes = λ k. (c.type_inv.q k).fits }
+    c.copy_from_slice.ensures.after c.copy_from_slice-2.ensures.after
     (subst (λ m. Summed n (code.map self) column 0 m c.loop-column.sums) count
     (subst (λ k. Summed n (code.map self) column k (K - k) c.loop-column.sums) end c.loop-column.invariant))

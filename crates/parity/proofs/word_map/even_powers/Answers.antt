@@ -3,8 +3,8 @@ use Rattle.std.proofs.lemmas.Nat.{mul-le, shr_le}
 use Rattle.parity.proofs.Evens.{clear, set}
 use Rattle.parity.proofs.word_map.even_powers.Goals as goal
 
-pub overflow-mul-count : goal.overflow-mul-count
-overflow-mul-count g c =
+pub overflow_mul-count : goal.overflow_mul-count
+overflow_mul-count g c =
     let terms : ℕ = (c.order.result - 1) / 2 + 1 in
     let few : c.loop-place.count ≤ 128 =
     omega (arith, c.loop-place.invariant.0, shr_le terms c.loop-place.place, c.order.ensures, (g.met.C.Code.turns c.args.code.now).1) in

@@ -7,37 +7,37 @@ use Rattle.sheets.proofs.Whole.{refused_header, line_one, refused_body, accepted
 use Rattle.sheets.proofs.Answer.{answered}
 use Rattle.sheets.proofs.read.read_sheet.Goals as goal
 
-pub returns-in-err-width : goal.returns-in-err-width
-returns-in-err-width c =
-    let p = err_from_is_err_and c.from-residual.result c.from-residual.ensures.1 in
-    let h = c.in-err-width.ensures in
+pub returns-in_err-width : goal.returns-in_err-width
+returns-in_err-width c =
+    let p = err_from_is_err_and c.from_residual.result c.from_residual.ensures.1 in
+    let h = c.in_err-width.ensures in
     rw (p.1, p.2) (answered _ _ (refused_header c.args.text.now _ _ c.new-reader.ensures.1 h.0
     (λ n N rest a b e. h.1 n N rest a b (c.new-reader.ensures.0 ∙ e))))
 
 pub returns-then-width-lt1 : goal.returns-then-width-lt1
 returns-then-width-lt1 c =
-    let h = c.in-ok-width.ensures in
+    let h = c.in_ok-width.ensures in
     answered _ _ (width _ _ (line_one c.args.text.now _ _ _ h.0 h.1 (sym c.new-reader.ensures.0 ∙ h.2))
     (λ l. elim c.then-width-lt1.either [ inl p ↦ omega (arith, l.0) | inr p ↦ omega (arith, l.1, p.1) ]) refl)
 
-pub returns-then-order-lt-MIN-ORDER : goal.returns-then-order-lt-MIN-ORDER
-returns-then-order-lt-MIN-ORDER c =
-    let h = c.in-ok-width.ensures in
+pub returns-then-order-lt-MIN_ORDER : goal.returns-then-order-lt-MIN_ORDER
+returns-then-order-lt-MIN_ORDER c =
+    let h = c.in_ok-width.ensures in
     answered _ _ (order _ _ (line_one c.args.text.now _ _ _ h.0 h.1 (sym c.new-reader.ensures.0 ∙ h.2))
-    (c.if-width-lt1.false, c.if-width-gt-MAX-WIDTH.false)
-    (λ l. elim c.then-order-lt-MIN-ORDER.either [ inl p ↦ omega (arith, l.0) | inr p ↦ omega (arith, l.1, p.1) ]) refl)
+    (c.if-width-lt1.false, c.if-width-gt-MAX_WIDTH.false)
+    (λ l. elim c.then-order-lt-MIN_ORDER.either [ inl p ↦ omega (arith, l.0) | inr p ↦ omega (arith, l.1, p.1) ]) refl)
 
-pub returns-in-err-rows : goal.returns-in-err-rows
-returns-in-err-rows c =
-    let p = err_from_is_err_and c.from-residual-in-err-rows.result c.from-residual-in-err-rows.ensures.1 in
-    let h = c.in-ok-width.ensures in
+pub returns-in_err-rows : goal.returns-in_err-rows
+returns-in_err-rows c =
+    let p = err_from_is_err_and c.from_residual-in_err-rows.result c.from_residual-in_err-rows.ensures.1 in
+    let h = c.in_ok-width.ensures in
     rw (p.1, p.2) (answered _ _ (refused_body c.args.text.now _ _ c.header.new.self c.body.new.self _
-    (c.if-width-lt1.false, c.if-width-gt-MAX-WIDTH.false) (c.if-order-lt-MIN-ORDER.false, c.if-order-gt-MAX-ORDER.false) h.0 h.1
-    (sym c.new-reader.ensures.0 ∙ h.2) (h.3 ∙ ap (λ x. on x 1) c.new-reader.ensures.1) c.in-err-rows.ensures))
+    (c.if-width-lt1.false, c.if-width-gt-MAX_WIDTH.false) (c.if-order-lt-MIN_ORDER.false, c.if-order-gt-MAX_ORDER.false) h.0 h.1
+    (sym c.new-reader.ensures.0 ∙ h.2) (h.3 ∙ ap (λ x. on x 1) c.new-reader.ensures.1) c.in_err-rows.ensures))
 
 pub returns : goal.returns
 returns c =
-    let h = c.in-ok-width.ensures in
+    let h = c.in_ok-width.ensures in
     answered _ _ (accepted_body c.args.text.now _ _ c.header.new.self c.body.new.self _
-    (c.if-width-lt1.false, c.if-width-gt-MAX-WIDTH.false) (c.if-order-lt-MIN-ORDER.false, c.if-order-gt-MAX-ORDER.false)
-    (sym c.new-reader.ensures.0 ∙ h.2) c.in-ok-rows.ensures)
+    (c.if-width-lt1.false, c.if-width-gt-MAX_WIDTH.false) (c.if-order-lt-MIN_ORDER.false, c.if-order-gt-MAX_ORDER.false)
+    (sym c.new-reader.ensures.0 ∙ h.2) c.in_ok-rows.ensures)

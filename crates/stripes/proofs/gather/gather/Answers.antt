@@ -50,13 +50,13 @@ returns-then-missing-gt2 g c = record {
   gathered = c.if-missing-gt2.true;
 }
 
-pub returns-in-err-lost : goal.returns-in-err-lost
-returns-in-err-lost g c =
+pub returns-in_err-lost : goal.returns-in_err-lost
+returns-in_err-lost g c =
     let inv = c.loop-column.invariant in
     let told = c.if-fetch.ensures in
-    rw c.from-residual.ensures (record {
+    rw c.from_residual.ensures (record {
       known = known_trans (g.R.ReadingRack.meaning c.args.rack.now) c.args.missing.now (g.R.ReadingRack.meaning c.loop-column.rack) c.loop-column.missing (g.R.ReadingRack.meaning c.fetch.new.rack) c.fetch.new.missing inv.0 told.known;
-      gathered = too_many (g.C.Code.bits c.args.code.now) (g.C.Code.map c.args.code.now) c.args.columns c.loop-column.column c.loop-column.missing c.fetch.new.missing c.loop-column.lost (g.met.C.Code.lawful c.args.code.now).linear c.loop-column-test.true c.loop-column.auto.column told.fetched.0 told.fetched.1 inv.3 c.in-err-lost.ensures;
+      gathered = too_many (g.C.Code.bits c.args.code.now) (g.C.Code.map c.args.code.now) c.args.columns c.loop-column.column c.loop-column.missing c.fetch.new.missing c.loop-column.lost (g.met.C.Code.lawful c.args.code.now).linear c.loop-column-test.true c.loop-column.auto.column told.fetched.0 told.fetched.1 inv.3 c.in_err-lost.ensures;
     })
 
 pub loop-column-preserved : goal.loop-column-preserved
@@ -78,7 +78,7 @@ loop-column-preserved g c =
       known_trans m c.args.missing.now m' s' m'' s'' inv.0 told.known,
       λ held holds. skips_next n h K C s' s'' held c.loop-column.sums c.skip.new.self lin pos le c.requires.fills told.fetched.0 told.fetched.1 (inv.1 held holds) c.skip.ensures,
       c.if-missing-gt2.false,
-      joins_next n h K C s' s'' c.loop-column.lost c.in-ok-lost.lost lin pos le told.fetched.0 told.fetched.1 inv.3 c.in-ok-lost.ensures,
+      joins_next n h K C s' s'' c.loop-column.lost c.in_ok-lost.lost lin pos le told.fetched.0 told.fetched.1 inv.3 c.in_ok-lost.ensures,
     )
 
 pub returns : goal.returns

@@ -4,12 +4,12 @@ use Rattle.stripes.specs.Marks.{marked}
 use Rattle.stripes.proofs.MarkBits.{marked_high}
 use Rattle.stripes.proofs.marks.stray_mark.Goals as goal
 
-pub returns-then-is-marked : goal.returns-then-is-marked
-returns-then-is-marked c = (c.loop-column.auto.column, sym c.if-is-marked.ensures, c.loop-column.invariant)
+pub returns-then-is_marked : goal.returns-then-is_marked
+returns-then-is_marked c = (c.loop-column.auto.column, sym c.if-is_marked.ensures, c.loop-column.invariant)
 
 pub loop-column-preserved : goal.loop-column-preserved
 loop-column-preserved c = λ k le lt.
-    ⊎_elim (λ is. ap (marked c.args.missing) is ∙ sym c.if-is-marked.ensures) (λ ne. c.loop-column.invariant k le (omega arith)) (cases_eq k c.loop-column.column)
+    ⊎_elim (λ is. ap (marked c.args.missing) is ∙ sym c.if-is_marked.ensures) (λ ne. c.loop-column.invariant k le (omega arith)) (cases_eq k c.loop-column.column)
 
 pub returns : goal.returns
 returns c = λ k le.

@@ -18,7 +18,7 @@ returns-in-Err g c = record {
 
 pub returns-then-missing-gt2 : goal.returns-then-missing-gt2
 returns-then-missing-gt2 g c = record {
-  answer = (too_many refl c.in-default.ensures (known_none (g.R.ReadingRack.meaning c.args.rack.now) c.args.missing) c.if-missing-gt2.true, refl);
+  answer = (too_many refl c.in_default.ensures (known_none (g.R.ReadingRack.meaning c.args.rack.now) c.args.missing) c.if-missing-gt2.true, refl);
   codeword = tt;
   encoded = tt;
   fillings = fillings (g.C.Code.bits c.args.code.now) (g.C.Code.period c.args.code.now) (g.C.Code.map c.args.code.now) (g.met.C.Code.wide c.args.code.now).0 (g.met.C.Code.turns c.args.code.now).0 (g.met.C.Code.lawful c.args.code.now);
@@ -28,7 +28,7 @@ pub returns-in-None : goal.returns-in-None
 returns-in-None g c =
     let told = c.in-None.ensures in
     record {
-      answer = (too_many refl c.in-default.ensures told.known told.rebuilt, refl);
+      answer = (too_many refl c.in_default.ensures told.known told.rebuilt, refl);
       codeword = tt;
       encoded = tt;
       fillings = fillings (g.C.Code.bits c.args.code.now) (g.C.Code.period c.args.code.now) (g.C.Code.map c.args.code.now) (g.met.C.Code.wide c.args.code.now).0 (g.met.C.Code.turns c.args.code.now).0 (g.met.C.Code.lawful c.args.code.now);
@@ -44,11 +44,11 @@ returns-in-Some g c =
     let lawful = g.met.C.Code.lawful c.args.code.now in
     let m = g.R.ReadingRack.meaning c.args.rack.now in
     let told = c.in-Some.ensures in
-    let law = c.in-default.ensures in
-    let buf = c.copy-from-slice.new.self in
-    let is : IsBlock buf = record { long = c.copy-from-slice.ensures.len ∙ law.block_size; bytes = λ k. (c.type-inv.buf k).fits } in
+    let law = c.in_default.ensures in
+    let buf = c.copy_from_slice.new.self in
+    let is : IsBlock buf = record { long = c.copy_from_slice.ensures.len ∙ law.block_size; bytes = λ k. (c.type_inv.buf k).fits } in
     let words : RecoveredBlock n N h (m.drives - 2) (columns_of m c.args.stripe) c.rebuild.new.missing c.args.column buf =
-    subst (λ b. RecoveredBlock n N h (m.drives - 2) (columns_of m c.args.stripe) c.rebuild.new.missing c.args.column b) (sym c.copy-from-slice.ensures.after)
+    subst (λ b. RecoveredBlock n N h (m.drives - 2) (columns_of m c.args.stripe) c.rebuild.new.missing c.args.column b) (sym c.copy_from_slice.ensures.after)
     (subst (λ D. RecoveredBlock n N h (D - 2) (columns_of m c.args.stripe) c.rebuild.new.missing c.args.column c.in-Some.block) c.drives-columns.ensures told.rebuilt.1) in
     record {
       answer = record { lawful = law; known = told.known; few = told.rebuilt.0; block = is; words = words };

@@ -18,7 +18,7 @@ returns-then-fetch g c =
     let same : SameData K s s' = λ k lt. ap (λ v. marked v k) told.fetched.1 in
     record {
       known = told.known;
-      data-marks = same;
+      data_marks = same;
       solved = λ held holds sums lost. (
         subst (λ v. ones v ≤ 2) (sym told.fetched.1) c.requires.few,
         one_by_p n N K (g.C.Code.map c.args.code.now) held s s' c.args.sums.now.p c.args.sums.now.q sums same
@@ -31,7 +31,7 @@ returns-then-fetch g c =
 pub returns-then-missing-gt2 : goal.returns-then-missing-gt2
 returns-then-missing-gt2 g c =
     let first = c.if-fetch.ensures in
-    record { known = first.known; data-marks = λ k lt. first.fetched.1 k (λ e. omega arith); solved = λ held holds sums lost. c.if-missing-gt2.true }
+    record { known = first.known; data_marks = λ k lt. first.fetched.1 k (λ e. omega arith); solved = λ held holds sums lost. c.if-missing-gt2.true }
 
 pub returns-then-not-fetch : goal.returns-then-not-fetch
 returns-then-not-fetch g c =
@@ -43,7 +43,7 @@ returns-then-not-fetch g c =
     let same : SameData K s s'' = λ k lt. second.fetched.1 k (λ e. omega arith) ∙ first.fetched.1 k (λ e. omega arith) in
     record {
       known = known_trans (g.R.ReadingRack.meaning c.args.rack.now) s (g.R.ReadingRack.meaning c.fetch.new.rack) c.fetch.new.missing (g.R.ReadingRack.meaning c.fetch-2.new.rack) s'' first.known second.known;
-      data-marks = same;
+      data_marks = same;
       solved = λ held holds sums lost.
           one_and_both (g.C.Code.bits c.args.code.now) (g.C.Code.period c.args.code.now) K (g.C.Code.map c.args.code.now) held s s'' c.args.sums.now.p c.args.sums.now.q sums same
           (g.met.C.Code.lawful c.args.code.now) c.requires.fills c.args.lost lost (second.known.grows K first.fetched.0) second.fetched.0;
@@ -64,7 +64,7 @@ returns g c =
     let same : SameData K s s'' = λ k lt. ap (λ v. marked v k) second.fetched.1 ∙ first.fetched.1 k (λ e. omega arith) in
     record {
       known = known_trans m s m' s' (g.R.ReadingRack.meaning c.fetch-2.new.rack) s'' first.known second.known;
-      data-marks = same;
+      data_marks = same;
       solved = λ held holds sums lost.
           let top : K + 1 < m'.drives = omega (arith, c.requires.drives, first.known.drives) in
           let now_held = holding_next m s m' s' c.args.stripe held first.known c.requires.stripe holds in (

@@ -10,7 +10,7 @@ loop-byte-preserved c =
     subst (λ b. b < 256) (sym (c.loop-byte.invariant.rest j (omega arith))) (c.fits-block j) in
     bytes_more 8 double c.args.block.now c.loop-byte.block j c.image.result
     (omega (arith, c.told-block, c.loop-byte-test.true)) c.loop-byte.invariant
-    (whole_byte double (get_or c.loop-byte.block j 0) c.image.result fits c.image.type-inv c.image.ensures)
+    (whole_byte double (get_or c.loop-byte.block j 0) c.image.result fits c.image.type_inv c.image.ensures)
 
 pub returns : goal.returns
 returns c =

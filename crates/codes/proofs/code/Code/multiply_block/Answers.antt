@@ -12,11 +12,11 @@ loop-i-preserved g c =
     let block = c.loop-i.block in
     let w = c.multiply.result in
     subst (λ bytes. PairsDone (code.map self) before (set (set block (2 * i) (get_or bytes 0 0)) (2 * i + 1) (get_or bytes 1 0)) (i + 1))
-    (sym c.to-le-bytes.ensures)
-    (pairs_more (code.map self) before block i (omega (arith, c.told-block, c.loop-i-test.true)) c.loop-i.invariant w c.multiply.type-inv
+    (sym c.to_le_bytes.ensures)
+    (pairs_more (code.map self) before block i (omega (arith, c.told-block, c.loop-i-test.true)) c.loop-i.invariant w c.multiply.type_inv
     (once (code.bits self) (code.period self) (code.map self) (g.met.Self.Code.turns self).0
-    (sym c.width.ensures ∙ c.if-width-eq16.true) w c.from-le-bytes-word.result c.from-le-bytes-word.type-inv c.multiply.ensures
-    ∙ ap (code.map self) (c.from-le-bytes-word.ensures ∙ pair_read (code.map self) before block i c.fits-block c.loop-i.invariant)))
+    (sym c.width.ensures ∙ c.if-width-eq16.true) w c.from_le_bytes-word.result c.from_le_bytes-word.type_inv c.multiply.ensures
+    ∙ ap (code.map self) (c.from_le_bytes-word.ensures ∙ pair_read (code.map self) before block i c.fits-block c.loop-i.invariant)))
   where
     once : (n N : ℕ) (h : ℕ → ℕ) → 1 < N → n ≡ 16 → (w word : ℕ) → word < 2 ^ 16 → w ≡ power h (1 % N) (word % 2 ^ n) → w ≡ h word
     once n N h more wide w word small is =
@@ -26,8 +26,8 @@ pub loop-byte-preserved : goal.loop-byte-preserved
 loop-byte-preserved g c =
     let code = g.Self.Code in
     let self = c.args.self.now in
-    bytes_more (code.bits self) (code.map self) c.args.block.now c.loop-byte.block c.loop-byte.byte-index c.multiply-byte.result
-    (omega (arith, c.told-block, c.loop-byte-test.true)) c.loop-byte.invariant c.multiply-byte.ensures
+    bytes_more (code.bits self) (code.map self) c.args.block.now c.loop-byte.block c.loop-byte.byte-index c.multiply_byte.result
+    (omega (arith, c.told-block, c.loop-byte-test.true)) c.loop-byte.invariant c.multiply_byte.ensures
 
 pub returns-after-loop-i : goal.returns-after-loop-i
 returns-after-loop-i g c =

@@ -28,8 +28,8 @@ loop-place-init g c =
           ])),
     )
 
-pub overflow-cast-image : goal.overflow-cast-image
-overflow-cast-image g c =
+pub overflow_cast-image : goal.overflow_cast-image
+overflow_cast-image g c =
     let code = g.Self.Code in
     let self = c.args.self.now in
     record {

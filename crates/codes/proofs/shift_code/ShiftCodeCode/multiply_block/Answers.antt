@@ -8,9 +8,9 @@ loop-i-preserved c =
     let i = c.loop-i.i in
     let block = c.loop-i.block in
     subst (λ bytes. PairsDone shift c.args.block.now (set (set block (2 * i) (get_or bytes 0 0)) (2 * i + 1) (get_or bytes 1 0)) (i + 1))
-    (sym c.to-le-bytes.ensures)
+    (sym c.to_le_bytes.ensures)
     (pairs_more shift c.args.block.now block i (omega (arith, c.told-block, c.loop-i-test.true)) c.loop-i.invariant
-    c.image.result c.image.type-inv (c.image.ensures ∙ ap shift (c.words-of-words.ensures i c.loop-i-test.true)))
+    c.image.result c.image.type_inv (c.image.ensures ∙ ap shift (c.words_of-words.ensures i c.loop-i-test.true)))
 
 pub returns : goal.returns
 returns c =

@@ -7,13 +7,13 @@ pub returns-in-Some : goal.returns-in-Some
 returns-in-Some c n f ready =
     let images : List ℕ = c.args.self.now.images in
     let before : List ℕ = c.args.block.now in
-    let after : List ℕ = c.apply-bytes.new.block in
+    let after : List ℕ = c.apply_bytes.new.block in
     let below : (k : ℕ) → get_or after k 0 < 256 =
-    bytes_below c.in-Some.images images c.in-Some.ensures before after c.apply-bytes.array_long c.apply-bytes.ensures in
-    units_all images n f ready before after c.told-block c.apply-bytes.array_long c.fits-block below
-    (bytes_units c.in-Some.images images c.in-Some.ensures before after c.fits-block below c.apply-bytes.ensures)
+    bytes_below c.in-Some.images images c.in-Some.ensures before after c.apply_bytes.array_long c.apply_bytes.ensures in
+    units_all images n f ready before after c.told-block c.apply_bytes.array_long c.fits-block below
+    (bytes_units c.in-Some.images images c.in-Some.ensures before after c.fits-block below c.apply_bytes.ensures)
 
 pub returns-in-None : goal.returns-in-None
 returns-in-None c n f ready =
-    units_all c.args.self.now.images n f ready c.args.block.now c.apply-units.new.block c.told-block c.apply-units.array_long
-    c.fits-block c.apply-units.ensures.bytes c.apply-units.ensures.units
+    units_all c.args.self.now.images n f ready c.args.block.now c.apply_units.new.block c.told-block c.apply_units.array_long
+    c.fits-block c.apply_units.ensures.bytes c.apply_units.ensures.units

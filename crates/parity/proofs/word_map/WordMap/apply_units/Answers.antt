@@ -15,10 +15,10 @@ loop-i-preserved c =
     (λ bytes.
     PairsDone f c.args.block.now (set (set block (2 * i) (get_or bytes 0 0)) (2 * i + 1) (get_or bytes 1 0)) (i + 1)
     × ((k : ℕ) → get_or (set (set block (2 * i) (get_or bytes 0 0)) (2 * i + 1) (get_or bytes 1 0)) k 0 < 256))
-    (sym c.to-le-bytes.ensures) (
+    (sym c.to_le_bytes.ensures) (
       pairs_more f c.args.block.now block i (omega (arith, c.told-block, c.loop-i-test.true)) c.loop-i.invariant.0
-          w c.image.type-inv
-          (c.image.ensures ∙ ap f (c.units-of-units.ensures i c.loop-i-test.true)),
+          w c.image.type_inv
+          (c.image.ensures ∙ ap f (c.units_of-units.ensures i c.loop-i-test.true)),
       set_below 256 (set block (2 * i) (w % 256)) (2 * i + 1) (w / 256 % 256) (mod_below (w / 256) 256 (omega arith))
           (set_below 256 block (2 * i) (w % 256) (mod_below w 256 (omega arith)) c.loop-i.invariant.1),
     )

@@ -5,8 +5,8 @@ use Rattle.parity.proofs.Evens.{undo_linear}
 use Rattle.parity.proofs.Fields.{filled_more, unit_word, units_fit, prepared}
 use Rattle.parity.proofs.word_map.WordMap.undo.Goals as goal
 
-pub even-powers-requires : goal.even-powers-requires
-even-powers-requires g c =
+pub even_powers-requires : goal.even_powers-requires
+even_powers-requires g c =
     let code = g.C.Code in
     let self = c.args.code.now in
     let t : ℕ = c.loop-t.t in
@@ -20,9 +20,9 @@ loop-t-preserved g c =
     let t : ℕ = c.loop-t.t in
     let f : ℕ → ℕ = undo (code.period self) (code.map self) c.args.z in
     let below : t < code.bits self = omega (arith, c.loop-t-test.true, c.width-width.ensures) in
-    filled_more 16 c.loop-t.units t c.even-powers.result (λ j. f (2 ^ j))
+    filled_more 16 c.loop-t.units t c.even_powers.result (λ j. f (2 ^ j))
     c.loop-t.invariant.0 (omega (arith, below, (g.met.C.Code.wide self).1)) c.loop-t.invariant.1
-    (c.even-powers.ensures ∙ ap f (unit_word t (code.bits self) below (g.met.C.Code.wide self).1))
+    (c.even_powers.ensures ∙ ap f (unit_word t (code.bits self) below (g.met.C.Code.wide self).1))
 
 pub spread-requires : goal.spread-requires
 spread-requires g c =

@@ -10,11 +10,11 @@ returns-in-First g c =
     let n = g.B.ReadingRack.meaning f.second in
     let m' = g.A.ReadingRack.meaning c.fit.new.self in
     record {
-      answer = fit_first f.agreed m m' n c.args.drive c.in-First.own_val c.in-ok-own.field-0 c.in-ok-own.ensures c.in-First.is
+      answer = fit_first f.agreed m m' n c.args.drive c.in-First.own c.in_ok-own.field-0 c.in_ok-own.ensures c.in-First.is
           c.fit.result c.fit.ensures;
       agreed = refl {a = f.agreed};
-      own = own_first g.A.ReadingRack.meaning g.B.ReadingRack.meaning f.agreed c.args.drive c.in-First.own_val c.in-ok-own.field-0 f.first f.second c.fit.new.self c.in-ok-own.ensures c.in-First.is
-          (size_fit m c.in-First.own_val c.fit.result m' c.fit.ensures);
+      own = own_first g.A.ReadingRack.meaning g.B.ReadingRack.meaning f.agreed c.args.drive c.in-First.own c.in_ok-own.field-0 f.first f.second c.fit.new.self c.in_ok-own.ensures c.in-First.is
+          (size_fit m c.in-First.own c.fit.result m' c.fit.ensures);
     }
 
 pub returns-in-Ok : goal.returns-in-Ok
@@ -24,11 +24,11 @@ returns-in-Ok g c =
     let n = g.B.ReadingRack.meaning f.second in
     let n' = g.B.ReadingRack.meaning c.fit-in-Second.new.self in
     record {
-      answer = fitted_second f.agreed m n n' c.args.drive c.in-Second.own_val c.in-ok-own.field-0 c.in-ok-own.ensures c.in-Second.is
+      answer = fitted_second f.agreed m n n' c.args.drive c.in-Second.own c.in_ok-own.field-0 c.in_ok-own.ensures c.in-Second.is
           c.in-Ok.ensures;
       agreed = refl {a = f.agreed};
-      own = own_second g.A.ReadingRack.meaning g.B.ReadingRack.meaning f.agreed c.args.drive c.in-Second.own_val c.in-ok-own.field-0 f.first f.second c.fit-in-Second.new.self c.in-ok-own.ensures c.in-Second.is
-          (size_fit n c.in-Second.own_val c.fit-in-Second.result n' c.fit-in-Second.ensures);
+      own = own_second g.A.ReadingRack.meaning g.B.ReadingRack.meaning f.agreed c.args.drive c.in-Second.own c.in_ok-own.field-0 f.first f.second c.fit-in-Second.new.self c.in_ok-own.ensures c.in-Second.is
+          (size_fit n c.in-Second.own c.fit-in-Second.result n' c.fit-in-Second.ensures);
     }
 
 pub returns-in-Err : goal.returns-in-Err
@@ -39,9 +39,9 @@ returns-in-Err g c =
     let n' = g.B.ReadingRack.meaning c.fit-in-Second.new.self in
     let told = c.in-Err.ensures in
     record {
-      answer = fit_refused_second f.agreed m n n' c.args.drive c.in-Second.own_val c.in-ok-own.field-0 c.in-ok-own.ensures c.in-Second.is
-          c.in-Err.fault c.renumbered.result (c.renumbered.ensures c.in-Second.own_val) told;
+      answer = fit_refused_second f.agreed m n n' c.args.drive c.in-Second.own c.in_ok-own.field-0 c.in_ok-own.ensures c.in-Second.is
+          c.in-Err.fault c.renumbered.result (c.renumbered.ensures c.in-Second.own) told;
       agreed = refl {a = f.agreed};
-      own = own_second g.A.ReadingRack.meaning g.B.ReadingRack.meaning f.agreed c.args.drive c.in-Second.own_val c.in-ok-own.field-0 f.first f.second c.fit-in-Second.new.self c.in-ok-own.ensures c.in-Second.is
-          (size_fit n c.in-Second.own_val c.fit-in-Second.result n' c.fit-in-Second.ensures);
+      own = own_second g.A.ReadingRack.meaning g.B.ReadingRack.meaning f.agreed c.args.drive c.in-Second.own c.in_ok-own.field-0 f.first f.second c.fit-in-Second.new.self c.in_ok-own.ensures c.in-Second.is
+          (size_fit n c.in-Second.own c.fit-in-Second.result n' c.fit-in-Second.ensures);
     }

@@ -10,11 +10,11 @@ returns-in-First g c =
     let n = g.B.ReadingRack.meaning f.second in
     let m' = g.A.ReadingRack.meaning c.pull.new.self in
     record {
-      answer = pull_first f.agreed m m' n c.args.drive c.in-First.own_val c.in-ok-own.field-0 c.in-ok-own.ensures c.in-First.is
+      answer = pull_first f.agreed m m' n c.args.drive c.in-First.own c.in_ok-own.field-0 c.in_ok-own.ensures c.in-First.is
           c.pull.result c.pull.ensures;
       agreed = refl {a = f.agreed};
-      own = own_first g.A.ReadingRack.meaning g.B.ReadingRack.meaning f.agreed c.args.drive c.in-First.own_val c.in-ok-own.field-0 f.first f.second c.pull.new.self c.in-ok-own.ensures c.in-First.is
-          (size_pull m c.in-First.own_val c.pull.result m' c.pull.ensures);
+      own = own_first g.A.ReadingRack.meaning g.B.ReadingRack.meaning f.agreed c.args.drive c.in-First.own c.in_ok-own.field-0 f.first f.second c.pull.new.self c.in_ok-own.ensures c.in-First.is
+          (size_pull m c.in-First.own c.pull.result m' c.pull.ensures);
     }
 
 pub returns-in-Ok : goal.returns-in-Ok
@@ -24,11 +24,11 @@ returns-in-Ok g c =
     let n = g.B.ReadingRack.meaning f.second in
     let n' = g.B.ReadingRack.meaning c.pull-in-Second.new.self in
     record {
-      answer = pulls_second f.agreed m n n' c.args.drive c.in-Second.own_val c.in-ok-own.field-0 c.in-ok-own.ensures c.in-Second.is
+      answer = pulls_second f.agreed m n n' c.args.drive c.in-Second.own c.in_ok-own.field-0 c.in_ok-own.ensures c.in-Second.is
           c.in-Ok.ensures;
       agreed = refl {a = f.agreed};
-      own = own_second g.A.ReadingRack.meaning g.B.ReadingRack.meaning f.agreed c.args.drive c.in-Second.own_val c.in-ok-own.field-0 f.first f.second c.pull-in-Second.new.self c.in-ok-own.ensures c.in-Second.is
-          (size_pull n c.in-Second.own_val c.pull-in-Second.result n' c.pull-in-Second.ensures);
+      own = own_second g.A.ReadingRack.meaning g.B.ReadingRack.meaning f.agreed c.args.drive c.in-Second.own c.in_ok-own.field-0 f.first f.second c.pull-in-Second.new.self c.in_ok-own.ensures c.in-Second.is
+          (size_pull n c.in-Second.own c.pull-in-Second.result n' c.pull-in-Second.ensures);
     }
 
 pub returns-in-Err : goal.returns-in-Err
@@ -39,9 +39,9 @@ returns-in-Err g c =
     let n' = g.B.ReadingRack.meaning c.pull-in-Second.new.self in
     let told = c.in-Err.ensures in
     record {
-      answer = pull_refused_second f.agreed m n n' c.args.drive c.in-Second.own_val c.in-ok-own.field-0 c.in-ok-own.ensures c.in-Second.is
+      answer = pull_refused_second f.agreed m n n' c.args.drive c.in-Second.own c.in_ok-own.field-0 c.in_ok-own.ensures c.in-Second.is
           c.in-Err.fault c.renumbered.result told;
       agreed = refl {a = f.agreed};
-      own = own_second g.A.ReadingRack.meaning g.B.ReadingRack.meaning f.agreed c.args.drive c.in-Second.own_val c.in-ok-own.field-0 f.first f.second c.pull-in-Second.new.self c.in-ok-own.ensures c.in-Second.is
-          (size_pull n c.in-Second.own_val c.pull-in-Second.result n' c.pull-in-Second.ensures);
+      own = own_second g.A.ReadingRack.meaning g.B.ReadingRack.meaning f.agreed c.args.drive c.in-Second.own c.in_ok-own.field-0 f.first f.second c.pull-in-Second.new.self c.in_ok-own.ensures c.in-Second.is
+          (size_pull n c.in-Second.own c.pull-in-Second.result n' c.pull-in-Second.ensures);
     }

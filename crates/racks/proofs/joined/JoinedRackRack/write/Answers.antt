@@ -10,11 +10,11 @@ returns-in-First g c =
     let n = g.B.ReadingRack.meaning f.second in
     let m' = g.A.ReadingRack.meaning c.write.new.self in
     record {
-      answer = write_first f.agreed m m' n c.args.drive c.in-First.own_val c.in-ok-side.side c.in-ok-side.ensures c.in-First.is
+      answer = write_first f.agreed m m' n c.args.drive c.in-First.own c.in_ok-side.side c.in_ok-side.ensures c.in-First.is
           c.args.block c.args.buf.now c.write.result (search rules) c.write.ensures;
       agreed = refl {a = f.agreed};
-      own = own_first g.A.ReadingRack.meaning g.B.ReadingRack.meaning f.agreed c.args.drive c.in-First.own_val c.in-ok-side.side f.first f.second c.write.new.self c.in-ok-side.ensures c.in-First.is
-          (size_write m c.in-First.own_val c.args.block c.args.buf.now c.write.result m' c.write.ensures);
+      own = own_first g.A.ReadingRack.meaning g.B.ReadingRack.meaning f.agreed c.args.drive c.in-First.own c.in_ok-side.side f.first f.second c.write.new.self c.in_ok-side.ensures c.in-First.is
+          (size_write m c.in-First.own c.args.block c.args.buf.now c.write.result m' c.write.ensures);
     }
 
 pub returns-in-Ok : goal.returns-in-Ok
@@ -24,11 +24,11 @@ returns-in-Ok g c =
     let n = g.B.ReadingRack.meaning f.second in
     let n' = g.B.ReadingRack.meaning c.write-in-Second.new.self in
     record {
-      answer = written_second f.agreed m n n' c.args.drive c.in-Second.own_val c.in-ok-side.side c.in-ok-side.ensures c.in-Second.is
+      answer = written_second f.agreed m n n' c.args.drive c.in-Second.own c.in_ok-side.side c.in_ok-side.ensures c.in-Second.is
           c.args.block c.args.buf.now (search rules) c.in-Ok.ensures;
       agreed = refl {a = f.agreed};
-      own = own_second g.A.ReadingRack.meaning g.B.ReadingRack.meaning f.agreed c.args.drive c.in-Second.own_val c.in-ok-side.side f.first f.second c.write-in-Second.new.self c.in-ok-side.ensures c.in-Second.is
-          (size_write n c.in-Second.own_val c.args.block c.args.buf.now c.write-in-Second.result n' c.write-in-Second.ensures);
+      own = own_second g.A.ReadingRack.meaning g.B.ReadingRack.meaning f.agreed c.args.drive c.in-Second.own c.in_ok-side.side f.first f.second c.write-in-Second.new.self c.in_ok-side.ensures c.in-Second.is
+          (size_write n c.in-Second.own c.args.block c.args.buf.now c.write-in-Second.result n' c.write-in-Second.ensures);
     }
 
 pub returns-in-Err : goal.returns-in-Err
@@ -39,9 +39,9 @@ returns-in-Err g c =
     let n' = g.B.ReadingRack.meaning c.write-in-Second.new.self in
     let told = c.in-Err.ensures in
     record {
-      answer = refused_second f.agreed m n n' c.args.drive c.in-Second.own_val c.in-ok-side.side c.in-ok-side.ensures c.in-Second.is
-          c.args.block (length c.args.buf.now) c.in-Err.fault c.renumbered.result (search rules) (c.renumbered.ensures c.in-Second.own_val) told;
+      answer = refused_second f.agreed m n n' c.args.drive c.in-Second.own c.in_ok-side.side c.in_ok-side.ensures c.in-Second.is
+          c.args.block (length c.args.buf.now) c.in-Err.fault c.renumbered.result (search rules) (c.renumbered.ensures c.in-Second.own) told;
       agreed = refl {a = f.agreed};
-      own = own_second g.A.ReadingRack.meaning g.B.ReadingRack.meaning f.agreed c.args.drive c.in-Second.own_val c.in-ok-side.side f.first f.second c.write-in-Second.new.self c.in-ok-side.ensures c.in-Second.is
-          (size_write n c.in-Second.own_val c.args.block c.args.buf.now c.write-in-Second.result n' c.write-in-Second.ensures);
+      own = own_second g.A.ReadingRack.meaning g.B.ReadingRack.meaning f.agreed c.args.drive c.in-Second.own c.in_ok-side.side f.first f.second c.write-in-Second.new.self c.in_ok-side.ensures c.in-Second.is
+          (size_write n c.in-Second.own c.args.block c.args.buf.now c.write-in-Second.result n' c.write-in-Second.ensures);
     }

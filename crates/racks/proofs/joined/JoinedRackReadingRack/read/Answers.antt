@@ -10,11 +10,11 @@ returns-in-First g c =
     let n = g.B.ReadingRack.meaning f.second in
     let m' = g.A.ReadingRack.meaning c.read.new.self in
     record {
-      answer = read_first f.agreed m m' n c.args.drive c.in-First.own_val c.in-ok-side.side c.in-ok-side.ensures c.in-First.is
+      answer = read_first f.agreed m m' n c.args.drive c.in-First.own c.in_ok-side.side c.in_ok-side.ensures c.in-First.is
           c.args.block c.args.buf.now c.read.new.buf c.read.result (search rules) c.read.ensures;
       agreed = refl {a = f.agreed};
-      own = own_first g.A.ReadingRack.meaning g.B.ReadingRack.meaning f.agreed c.args.drive c.in-First.own_val c.in-ok-side.side f.first f.second c.read.new.self c.in-ok-side.ensures c.in-First.is
-          (size_read m c.in-First.own_val c.args.block c.args.buf.now c.read.result m' c.read.new.buf c.read.ensures);
+      own = own_first g.A.ReadingRack.meaning g.B.ReadingRack.meaning f.agreed c.args.drive c.in-First.own c.in_ok-side.side f.first f.second c.read.new.self c.in_ok-side.ensures c.in-First.is
+          (size_read m c.in-First.own c.args.block c.args.buf.now c.read.result m' c.read.new.buf c.read.ensures);
     }
 
 pub returns-in-Ok : goal.returns-in-Ok
@@ -24,11 +24,11 @@ returns-in-Ok g c =
     let n = g.B.ReadingRack.meaning f.second in
     let n' = g.B.ReadingRack.meaning c.read-in-Second.new.self in
     record {
-      answer = read_second f.agreed m n n' c.args.drive c.in-Second.own_val c.in-ok-side.side c.in-ok-side.ensures c.in-Second.is
+      answer = read_second f.agreed m n n' c.args.drive c.in-Second.own c.in_ok-side.side c.in_ok-side.ensures c.in-Second.is
           c.args.block c.args.buf.now c.read-in-Second.new.buf (search rules) c.in-Ok.ensures;
       agreed = refl {a = f.agreed};
-      own = own_second g.A.ReadingRack.meaning g.B.ReadingRack.meaning f.agreed c.args.drive c.in-Second.own_val c.in-ok-side.side f.first f.second c.read-in-Second.new.self c.in-ok-side.ensures c.in-Second.is
-          (size_read n c.in-Second.own_val c.args.block c.args.buf.now c.read-in-Second.result n' c.read-in-Second.new.buf c.read-in-Second.ensures);
+      own = own_second g.A.ReadingRack.meaning g.B.ReadingRack.meaning f.agreed c.args.drive c.in-Second.own c.in_ok-side.side f.first f.second c.read-in-Second.new.self c.in_ok-side.ensures c.in-Second.is
+          (size_read n c.in-Second.own c.args.block c.args.buf.now c.read-in-Second.result n' c.read-in-Second.new.buf c.read-in-Second.ensures);
     }
 
 pub returns-in-Err : goal.returns-in-Err
@@ -41,10 +41,10 @@ returns-in-Err g c =
     record {
       answer = (
         told.0,
-        refused_second f.agreed m n n' c.args.drive c.in-Second.own_val c.in-ok-side.side c.in-ok-side.ensures c.in-Second.is
-            c.args.block (length c.args.buf.now) c.in-Err.fault c.renumbered.result (search rules) (c.renumbered.ensures c.in-Second.own_val) told.1,
+        refused_second f.agreed m n n' c.args.drive c.in-Second.own c.in_ok-side.side c.in_ok-side.ensures c.in-Second.is
+            c.args.block (length c.args.buf.now) c.in-Err.fault c.renumbered.result (search rules) (c.renumbered.ensures c.in-Second.own) told.1,
       );
       agreed = refl {a = f.agreed};
-      own = own_second g.A.ReadingRack.meaning g.B.ReadingRack.meaning f.agreed c.args.drive c.in-Second.own_val c.in-ok-side.side f.first f.second c.read-in-Second.new.self c.in-ok-side.ensures c.in-Second.is
-          (size_read n c.in-Second.own_val c.args.block c.args.buf.now c.read-in-Second.result n' c.read-in-Second.new.buf c.read-in-Second.ensures);
+      own = own_second g.A.ReadingRack.meaning g.B.ReadingRack.meaning f.agreed c.args.drive c.in-Second.own c.in_ok-side.side f.first f.second c.read-in-Second.new.self c.in_ok-side.ensures c.in-Second.is
+          (size_read n c.in-Second.own c.args.block c.args.buf.now c.read-in-Second.result n' c.read-in-Second.new.buf c.read-in-Second.ensures);
     }

@@ -7,7 +7,7 @@ loop-i-init c = (filling_none c.args.width, stands_none c.args.width c.args.self
 
 pub loop-i-preserved : goal.loop-i-preserved
 loop-i-preserved c =
-    let r = c.in-ok-rows.ensures in (
+    let r = c.in_ok-rows.ensures in (
       filling_more c.args.width c.loop-i.i c.loop-i.rows _ c.loop-i.invariant.0 r.1,
       stands_more c.args.width c.loop-i.i c.args.self.now c.loop-i.self c.row.new.self c.loop-i.rows _
           (omega (arith, c.loop-i.invariant.0.sixteen)) r.1 r.2 r.3 c.loop-i.invariant.1,
