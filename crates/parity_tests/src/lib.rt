@@ -31,17 +31,17 @@ mod tests {
         let mut p = [0; 512];
         let mut q = [0; 512];
         encode(&ByteCode, k, &data[0..size], &mut p, &mut q)?;
-        assert!(rt; p == *p_there, "P");
-        assert!(rt; q == *q_there, "Q");
+        assert!(rt; p == *p_there, "P of K = {k}");
+        assert!(rt; q == *q_there, "Q of K = {k}");
         Ok(())
     }
 
     #[test]
     fn outside_vectors(rt: HostRuntime) -> Result<(), Fail> {
-        agrees(&rt, 2, P_2, Q_2).note("K = 2")?;
-        agrees(&rt, 3, P_3, Q_3).note("K = 3")?;
-        agrees(&rt, 5, P_5, Q_5).note("K = 5")?;
-        agrees(&rt, 10, P_10, Q_10).note("K = 10")
+        agrees(&rt, 2, P_2, Q_2)?;
+        agrees(&rt, 3, P_3, Q_3)?;
+        agrees(&rt, 5, P_5, Q_5)?;
+        agrees(&rt, 10, P_10, Q_10)
     }
 
     // Words of 2 bits, first and last of the block: 1, 2 and 0 give P 3 and Q 2.

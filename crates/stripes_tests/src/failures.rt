@@ -69,13 +69,21 @@ fn falters<C: Code>(
     let mut buf = [0xa5; 512];
     let (result, known) = recover(&mut rack, code, STRIPE, column, marks, &mut buf);
     // The marks are those given and those of the drives that failed.
-    assert_eq!(rt; known, marks | failed_drives(&rack)?);
+    let width = code.width();
+    assert_eq!(rt;
+        known,
+        marks | failed_drives(&rack)?,
+        "width {width}, column {column}"
+    );
     let touches = rack.touches();
     if known.count_ones() > 2 {
         return gave_up(rt, result, &buf, touches, at);
     }
-    assert_eq!(rt; result, Ok(()));
-    assert!(rt; buf == column_of(columns, column)?, "the block");
+    assert_eq!(rt; result, Ok(()), "width {width}, column {column}");
+    assert!(rt;
+        buf == column_of(columns, column)?,
+        "the block of width {width}, column {column}"
+    );
     few_touches(rt, drives, column, marks, known, touches)
 }
 
@@ -122,7 +130,7 @@ fn any_marks<C: Code>(rt: &impl Abort, code: &C, k: u8) -> Result<(), Fail> {
 
 #[test]
 fn every_code(rt: HostRuntime) -> Result<(), Fail> {
-    any_marks(&rt, &ShiftCode, 5).note("shift code")?;
-    any_marks(&rt, &ByteCode, 5).note("byte code")?;
-    any_marks(&rt, &MatrixCode::new(Generator::fresh()), 3).note("matrix code")
+    any_marks(&rt, &ShiftCode, 5)?;
+    any_marks(&rt, &ByteCode, 5)?;
+    any_marks(&rt, &MatrixCode::new(Generator::fresh()), 3)
 }

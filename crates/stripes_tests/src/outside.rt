@@ -29,14 +29,15 @@ fn agrees(
     set_column(&mut columns, low, low_there)?;
     set_column(&mut columns, high, high_there)?;
     let lost = bit(low) | bit(high);
-    recovers(rt, &mut rack, &ByteCode, &columns, low, lost, 0).note("the lower one")?;
-    recovers(rt, &mut rack, &ByteCode, &columns, high, lost, 0).note("the higher one")
+    recovers(rt, &mut rack, &ByteCode, &columns, low, lost, 0)?;
+    recovers(rt, &mut rack, &ByteCode, &columns, high, lost, 0)
 }
 
 #[test]
 fn recovered_blocks(rt: HostRuntime) -> Result<(), Fail> {
-    agrees(&rt, 5, 1, 3, LOW_5_1_3, HIGH_5_1_3).note("two data columns of 5")?;
-    agrees(&rt, 5, 2, 5, LOW_5_2_P, HIGH_5_2_P).note("a data column and P")?;
-    agrees(&rt, 5, 4, 6, LOW_5_4_Q, HIGH_5_4_Q).note("a data column and Q")?;
-    agrees(&rt, 30, 0, 29, LOW_30_0_29, HIGH_30_0_29).note("two data columns of 30")
+    // two data columns of 5, a data column and P, a data column and Q, two data columns of 30
+    agrees(&rt, 5, 1, 3, LOW_5_1_3, HIGH_5_1_3)?;
+    agrees(&rt, 5, 2, 5, LOW_5_2_P, HIGH_5_2_P)?;
+    agrees(&rt, 5, 4, 6, LOW_5_4_Q, HIGH_5_4_Q)?;
+    agrees(&rt, 30, 0, 29, LOW_30_0_29, HIGH_30_0_29)
 }

@@ -45,11 +45,11 @@ fn every_set<C: Code>(rt: &impl Abort, code: &C, k: u8) -> Result<(), Fail> {
 
 #[test]
 fn every_code(rt: HostRuntime) -> Result<(), Fail> {
-    every_set(&rt, &ShiftCode, 5).note("shift code")?;
-    every_set(&rt, &ByteCode, 5).note("byte code")?;
+    every_set(&rt, &ShiftCode, 5)?;
+    every_set(&rt, &ByteCode, 5)?;
     let matrix = MatrixCode::new(Generator::fresh());
     for k in 1..4 {
-        every_set(&rt, &matrix, k).note("matrix code")?;
+        every_set(&rt, &matrix, k)?;
     }
     Ok(())
 }
@@ -107,5 +107,5 @@ fn joined_racks(rt: HostRuntime) -> Result<(), Fail> {
     for pulled in [0, 0b1, 0b100_0000, 0b101, 0b1100, 0b110_0000] {
         joined(&rt, &columns, pulled)?;
     }
-    half_dead(&rt, &columns).note("with a dead rack")
+    half_dead(&rt, &columns)
 }

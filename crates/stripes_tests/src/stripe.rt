@@ -123,8 +123,16 @@ pub fn recovers<R: ReadingRack, C: Code>(
 ) -> Result<(), Fail> {
     let mut buf = [0xa5; 512];
     let (result, known) = recover(rack, code, STRIPE, column, marks, &mut buf);
-    assert_eq!(rt; result, Ok(()));
-    assert!(rt; buf == column_of(columns, column)?, "the block");
+    let width = code.width();
+    assert_eq!(rt;
+        result,
+        Ok(()),
+        "width {width}, column {column}, marks {marks}"
+    );
+    assert!(rt;
+        buf == column_of(columns, column)?,
+        "the block of width {width}, column {column}, marks {marks}"
+    );
     marks_are_right(rt, rack.drives(), column, marks, silent, known)
 }
 
