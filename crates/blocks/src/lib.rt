@@ -1,4 +1,5 @@
 // Blocks, and the limits of a shelf. Each limit is named once, here.
+#![tactic(auto)]
 
 // How many bytes a block has.
 pub const BLOCK_SIZE: usize = 512;

@@ -1,4 +1,6 @@
 // Codes: one linear map of words, and what multiplying by its powers means. Encoding and recovery are proved over any code, from its laws.
+#![tactic(auto)]
+
 ghost use Rattle.codes.specs.Layout.{WordsInBytes, PairsOfBytes, EqualWords};
 
 mod byte_code;

@@ -1,4 +1,6 @@
 // The codes' work on blocks and words, exported for the benchmark in bench/codes. Each call promises what the code's own call does.
+#![tactic(auto)]
+
 ghost use Rattle.std.specs.Prelude.{◌≡◌, ◌%◌, ◌^◌};
 ghost use Rattle.codes.specs.Blocks.{Multiplied};
 ghost use Rattle.codes.specs.Doubling.{shift, double};

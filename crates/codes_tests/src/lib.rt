@@ -1,3 +1,5 @@
+#![tactic(auto)]
+
 // Examples of the codes, and their agreement with one another and with outside vectors.
 #[cfg(test)]
 mod tests {

@@ -1,4 +1,6 @@
 // cone: judges the sheet on standard input, and prints the verdict on one line.
+#![tactic(auto)]
+
 ghost use Rattle.std.specs.Prelude.{◌≤◌, length, IfOk};
 
 use generator::record::Generator;

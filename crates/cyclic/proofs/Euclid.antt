@@ -1,6 +1,5 @@
 -- A word that g ^ a and g ^ b leave unchanged is unchanged by g ^ d, for a common divisor d of a and b.
-use Rattle.std.proofs.Common.{◌≡◌, ℕ, zero, suc, ◌+◌, ◌-◌, ◌*◌, ◌%◌, ◌<◌, ◌≤◌, sym, refl, ap, ◌∙◌, ⊎_elim, add-mul, one-mul, arith}
-use native.Mathlib.Nat.{mul-mod_left}
+use Rattle.std.proofs.Common.{◌≡◌, ℕ, zero, suc, ◌+◌, ◌-◌, ◌*◌, ◌<◌, ◌≤◌, sym, ap, ◌∙◌, ⊎_elim, add-mul, one-mul, arith}
 use Rattle.std.proofs.lemmas.Bool.{cases_order}
 use Rattle.cyclic.specs.Maps.{power}
 use Rattle.cyclic.proofs.Powers.{power_add}

@@ -1,14 +1,14 @@
 -- Two covered columns have just one filling.
-use Rattle.std.proofs.Common.{◌≡◌, ℕ, zero, suc, ◌+◌, ◌-◌, ◌*◌, ◌^◌, ◌<◌, ◌≤◌, Bool, true, false, cond, ◌||◌, eqb, ◌⊎◌, sym, refl, ap, ◌∙◌, subst, inl, inr, ⊎_elim, arith, pow_pos}
-use lib.Bits.{xor_assoc, xor_comm, xor_self, xor_zero_l, xor_zero_r, xor_lt}
+use Rattle.std.proofs.Common.{◌≡◌, ℕ, ◌+◌, ◌-◌, ◌^◌, ◌<◌, ◌≤◌, Bool, true, false, cond, ◌||◌, eqb, sym, refl, ap, ◌∙◌, subst, inl, inr, ⊎_elim, arith, pow_pos}
+use lib.Bits.{xor_assoc, xor_lt}
 use Rattle.std.proofs.lemmas.Bool.{cases_eq, cases_lt, cond-true, cond-false, eq-eqb, ne_eqb, eqb-true, or_cases, or_left, or_right, or_from, cases_Bool, false≢true}
 use Rattle.cyclic.specs.Maps.{◌⊕◌, sum, power, Linear, Lawful}
 use Rattle.cyclic.specs.Theorems.{undo}
-use Rattle.cyclic.specs.Columns.{Codeword, OnlyMissing, share, ΔP, ΔQ, RecoveredData, own, by_p, by_q, upper, lower, Recovered, data_column, parity_left, encoded_p, encoded_q, LeftOf, Words, filled, OneFilling, FillingTheorem}
+use Rattle.cyclic.specs.Columns.{Codeword, OnlyMissing, share, ΔP, ΔQ, RecoveredData, own, by_p, by_q, upper, lower, Recovered, data_column, encoded_p, encoded_q, LeftOf, Words, filled, OneFilling, FillingTheorem}
 use Rattle.cyclic.proofs.Powers.{power_add, power_words, power_sums, power_zero}
 use Rattle.cyclic.proofs.Orders.{even_powers}
 use Rattle.cyclic.proofs.Shares.{last_two, sum_below, sum_words_below, sum_but_one, sum_but_two, cancel_front}
-use Rattle.cyclic.proofs.Recover.{present, forth, all_right}
+use Rattle.cyclic.proofs.Recover.{forth, all_right}
 
 -- s + (c + s) is c
 around : (s c : ℕ) → s ⊕ (c ⊕ s) ≡ c

@@ -1,9 +1,9 @@
 -- For a linear map h of odd order N that leaves only zero unchanged, the sum of the even powers of h undoes 1 + h.
-use Rattle.std.proofs.Common.{◌≡◌, ℕ, zero, suc, ◌+◌, ◌-◌, ◌*◌, ◌/◌, ◌%◌, ◌^◌, ◌<◌, ◌≤◌, sym, refl, ap, ◌∙◌, subst, arith}
-use lib.Bits.{xor_self, xor_zero_l, xor_lt}
+use Rattle.std.proofs.Common.{◌≡◌, ℕ, zero, suc, ◌*◌, ◌^◌, ◌<◌, sym, refl, ap, ◌∙◌, arith}
+use lib.Bits.{xor_self, xor_zero_l}
 use Rattle.cyclic.specs.Maps.{◌⊕◌, sum, power, Linear, Returns, OnlyZero}
 use Rattle.cyclic.proofs.Sums.{cancel, sum_words, sum_same, sum_sum}
-use Rattle.cyclic.proofs.Powers.{power_add, power_words, power_sums, zero_to_zero, sum_image, telescope, pairs}
+use Rattle.cyclic.proofs.Powers.{power_words, power_sums, sum_image, telescope, pairs}
 
 -- the sum of the first k even powers
 abbrev pub evens : (ℕ → ℕ) → ℕ → ℕ → ℕ

@@ -1,7 +1,7 @@
 -- The judge's theorem: the divisor test, the laws of a code and the invertible sums say the same.
-use Rattle.std.proofs.Common.{◌≡◌, ℕ, zero, suc, ◌+◌, ◌-◌, ◌*◌, ◌/◌, ◌%◌, ◌^◌, ◌<◌, ◌≤◌, ◌⊎◌, sym, refl, ap, ◌∙◌, subst, inl, inr, ⊎_elim, suc-mul, mul_comm, zero-mul, add-one, arith, pow_pos}
+use Rattle.std.proofs.Common.{◌≡◌, ℕ, zero, suc, ◌+◌, ◌-◌, ◌*◌, ◌/◌, ◌%◌, ◌^◌, ◌<◌, ◌≤◌, ◌⊎◌, sym, ap, ◌∙◌, subst, inl, inr, ⊎_elim, suc-mul, mul_comm, zero-mul, add-one, arith, pow_pos}
 use native.Mathlib.Nat.{mul-mod_left}
-use lib.Bits.{xor_self, xor_comm, xor_lt, xor_zero_l}
+use lib.Bits.{xor_self, xor_comm, xor_lt}
 use lib.Pow.{pow-lt}
 use Rattle.std.proofs.lemmas.Bool.{cases_order, cases_eq}
 use Rattle.cyclic.specs.Maps.{◌⊕◌, sum, power, Linear, Returns, OnlyZero, Lawful, DivisorTest, Invertible, InvertibleSums}

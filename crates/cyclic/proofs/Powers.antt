@@ -1,10 +1,8 @@
 -- Powers of a linear map.
-use Rattle.std.proofs.Common.{◌≡◌, ℕ, zero, suc, ◌+◌, ◌-◌, ◌*◌, ◌/◌, ◌%◌, ◌^◌, ◌<◌, ◌≤◌, sym, refl, ap, ◌∙◌, subst, ⊎_elim, add-suc, mul_assoc, suc-mul, mul_comm, add-mul, add_comm, suc-add, one-mul, zero-add, zero-mul, arith, pow_pos}
-use native.Mathlib.Nat.{mul-mod_left}
-use lib.Bits.{xor_self, xor_lt, xor_zero_r, xor_comm, xor_zero_l, xor_assoc}
-use Rattle.std.proofs.lemmas.Bool.{cases_order, cases_lt}
-use Rattle.cyclic.specs.Maps.{◌⊕◌, sum, power, Linear, Returns, OnlyZero, Lawful, DivisorTest, Invertible, InvertibleSums}
-use Rattle.cyclic.proofs.Sums.{cancel, meet, swap, drop_twice, sum_words, sum_same, sum_sum}
+use Rattle.std.proofs.Common.{◌≡◌, ℕ, zero, suc, ◌+◌, ◌*◌, ◌^◌, ◌<◌, sym, refl, ap, ◌∙◌, suc-mul, add_comm, suc-add, zero-add, zero-mul, arith, pow_pos}
+use lib.Bits.{xor_self, xor_assoc}
+use Rattle.cyclic.specs.Maps.{◌⊕◌, sum, power, Linear}
+use Rattle.cyclic.proofs.Sums.{meet, swap, sum_words}
 
 pub power_add : (g : ℕ → ℕ) (j k x : ℕ) → power g (j + k) x ≡ power g j (power g k x)
 power_add g zero k x = ap (λ m. power g m x) (zero-add k)

@@ -1,7 +1,7 @@
 -- Recovery gives a codeword's own columns back.
-use Rattle.std.proofs.Common.{◌≡◌, ℕ, zero, suc, ◌+◌, ◌-◌, ◌*◌, ◌^◌, ◌<◌, ◌≤◌, Bool, true, false, cond, ◌⊎◌, sym, refl, ap, ◌∙◌, subst, inl, inr, ⊎_elim, arith}
-use lib.Bits.{xor_assoc, xor_comm, xor_self, xor_zero_l, xor_zero_r, xor_lt}
-use Rattle.std.proofs.lemmas.Bool.{cases_eq, cases_Bool, cond-true, cond-false, false≢true}
+use Rattle.std.proofs.Common.{◌≡◌, ℕ, ◌+◌, ◌-◌, ◌^◌, ◌<◌, ◌≤◌, Bool, true, false, sym, ap, ◌∙◌, ⊎_elim, arith}
+use lib.Bits.{xor_assoc, xor_comm, xor_self, xor_zero_l, xor_lt}
+use Rattle.std.proofs.lemmas.Bool.{cases_Bool, cond-true, cond-false}
 use Rattle.cyclic.specs.Maps.{◌⊕◌, sum, power, Linear, Lawful}
 use Rattle.cyclic.specs.Theorems.{undo}
 use Rattle.cyclic.specs.Columns.{Codeword, OnlyMissing, share, ΔP, ΔQ, RecoveredData, own, by_p, by_q, upper, lower, Recovered, data_column, parity_left, encoded_p, encoded_q, LeftOf, Words, RecoveryTheorem}

@@ -1,6 +1,6 @@
 -- Laws of the sum of words.
-use Rattle.std.proofs.Common.{◌≡◌, ℕ, zero, suc, ◌^◌, ◌<◌, sym, refl, ap, ◌∙◌, pow_pos}
-use lib.Bits.{xor_assoc, xor_comm, xor_self, xor_zero_l, xor_zero_r, xor_lt}
+use Rattle.std.proofs.Common.{◌≡◌, ℕ, zero, suc, ◌^◌, ◌<◌, sym, refl, ap, ◌∙◌}
+use lib.Bits.{xor_assoc, xor_comm, xor_self, xor_zero_l, xor_zero_r}
 use Rattle.cyclic.specs.Maps.{◌⊕◌, sum}
 use Rattle.cyclic.proofs.Shares.{sum_below, sum_words_below}
 

@@ -1,6 +1,6 @@
 -- Words, their sums, and the powers of a map of words.
 -- A word of n bits is a number below 2 ^ n; bit i has weight 2 ^ i.
-use Rattle.std.specs.Prelude.{◌≡◌, ℕ, zero, suc, ◌+◌, ◌*◌, ◌%◌, ◌^◌, ◌<◌, ◌≢◌, bit_xor}
+use Rattle.std.specs.Prelude.{◌≡◌, ℕ, zero, suc, ◌%◌, ◌^◌, ◌<◌, ◌≢◌, bit_xor}
 
 infixl 65 ◌⊕◌
 -- the sum of two words: bitwise exclusive or

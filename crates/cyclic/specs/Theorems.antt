@@ -1,5 +1,5 @@
 -- The theorems on powers of a linear map, for every width of at least one bit and every order of at least two.
-use Rattle.std.specs.Prelude.{◌≡◌, ℕ, ◌+◌, ◌-◌, ◌*◌, ◌/◌, ◌%◌, ◌^◌, ◌<◌, ◌≤◌}
+use Rattle.std.specs.Prelude.{◌≡◌, ℕ, ◌+◌, ◌-◌, ◌*◌, ◌/◌, ◌%◌, ◌^◌, ◌<◌}
 use Rattle.cyclic.specs.Maps.{◌⊕◌, sum, power, Linear, Lawful, DivisorTest, InvertibleSums}
 
 -- The test of the divisors is the test of all exponents, and both say that the sums are invertible.

@@ -1,4 +1,6 @@
 // The theory of a code's map: powers of one linear map of words. Definitions and statements are in specs/.
+#![tactic(auto)]
+
 ghost use Rattle.cyclic.specs.Columns.{RecoveryTheorem, FillingTheorem};
 ghost use Rattle.cyclic.specs.Theorems.{JudgeTheorem, OddOrder, EvenPowers};
 

@@ -1,12 +1,10 @@
 -- The judge's figures, each by a test that the checker computes.
-use Rattle.std.proofs.Common.{◌≡◌, ℕ, zero, suc, ◌<◌, Bool, T, ltb, List, [], ◌∷◌, length, get_or, Ok, Err, refl, arith}
+use Rattle.std.proofs.Common.{◌≡◌, ℕ, List, [], ◌∷◌, Err, refl, arith}
 use lib.Count.{ones, ones_in}
 use Rattle.refusals.specs.declared.Refusal.TheVariants.{NotCyclic, FixedWord}
-use Rattle.cyclic.specs.Maps.{power, Returns, DivisorTest}
-use Rattle.cyclic.proofs.Units.{all_below}
-use Rattle.generator.specs.Matrix.{image, Shaped, FailsAt}
+use Rattle.generator.specs.Matrix.{image, Shaped}
 use Rattle.generator.specs.Judge.{Accepted, Verdict, not_cyclic, fixed_word}
-use Rattle.generator.proofs.Decide.{returns_test, divisors_test, returns_decided, test_decided, least_test, least_decided}
+use Rattle.generator.proofs.Decide.{returns_decided, test_decided, least_decided}
 use Rattle.generator.proofs.Shapes.{low_rows}
 use Rattle.figures.specs.Judged.{JudgeFigures}
 

@@ -1,5 +1,5 @@
 -- The judge's conditions at numbers that are written out, by a test that the checker computes.
-use Rattle.std.proofs.Common.{◌≡◌, ℕ, zero, suc, ◌%◌, ◌^◌, ◌<◌, Bool, true, false, not, ◌||◌, T, eqb, List, sym, refl, ap, ◌∙◌, subst, arith, eqb→eq}
+use Rattle.std.proofs.Common.{◌≡◌, ℕ, ◌%◌, ◌^◌, ◌<◌, Bool, true, false, not, ◌||◌, T, eqb, subst, arith, eqb→eq}
 use Rattle.std.proofs.lemmas.Bool.{eq-eqb}
 use Rattle.cyclic.specs.Maps.{power, Returns, OnlyZero, DivisorTest}
 use Rattle.cyclic.proofs.Units.{all_below, each_below}

@@ -1,8 +1,7 @@
 -- The image is linear, and the image of a product is the image of the image.
-use Rattle.std.proofs.Common.{◌≡◌, ℕ, zero, suc, ◌+◌, ◌-◌, ◌*◌, ◌/◌, ◌%◌, ◌^◌, ◌<◌, ◌≤◌, min, List, [], ◌∷◌, ◌++◌, length, get_or, drop, replicate, sym, refl, ap, ◌∙◌, subst, one-mul, pow-suc, zero-mul, arith}
-use lib.Arith.{digits_div, digits_mod, digits_lt}
-use lib.Bits.{bit_and, bit_xor, xor_block, and_step, and_comm, and_zero_l, and_zero_r}
-use lib.Count.{ones}
+use Rattle.std.proofs.Common.{◌≡◌, ℕ, zero, suc, ◌+◌, ◌-◌, ◌*◌, ◌/◌, ◌%◌, ◌^◌, ◌<◌, ◌≤◌, min, List, [], ◌∷◌, length, get_or, drop, sym, refl, ap, ◌∙◌, one-mul, pow-suc, zero-mul, arith}
+use lib.Arith.{digits_div, digits_mod}
+use lib.Bits.{bit_and, xor_block, and_step, and_comm, and_zero_l, and_zero_r}
 use Rattle.std.proofs.lemmas.List.{at_drop_more, at_drop_all}
 use Rattle.std.proofs.lemmas.Nat.{shr-shr}
 use Rattle.cyclic.specs.Maps.{◌⊕◌, Linear}

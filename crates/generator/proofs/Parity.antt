@@ -1,8 +1,8 @@
 -- The parity of a sum of words, and of a word that a row picks from.
-use Rattle.std.proofs.Common.{◌≡◌, ℕ, zero, suc, ◌+◌, ◌*◌, ◌/◌, ◌%◌, ◌^◌, ◌<◌, min, sym, refl, ap, ◌∙◌, subst, arith}
+use Rattle.std.proofs.Common.{◌≡◌, ℕ, zero, suc, ◌+◌, ◌*◌, ◌/◌, ◌%◌, ◌<◌, min, sym, refl, ap, ◌∙◌, arith}
 use native.Mathlib.Nat.{zero-min}
 use lib.Arith.{bin_ind, digits_div, digits_mod}
-use lib.Bits.{bit_and, bit_xor, xor_shr, xor_mod, xor_zero_l, xor_zero_r, and_step, and_shr, and_mod, xor_block, xor_step, and_comm, and_zero_l, and_zero_r}
+use lib.Bits.{bit_and, xor_shr, xor_mod, xor_zero_l, and_step, xor_block, and_zero_l}
 use lib.Count.{ones, ones_step}
 use Rattle.cyclic.specs.Maps.{◌⊕◌}
 use Rattle.generator.specs.Matrix.{parity}

@@ -1,5 +1,5 @@
 -- The shape of a matrix: which rows and bits it has, and what that says of its images.
-use Rattle.std.proofs.Common.{◌≡◌, ℕ, zero, suc, ◌+◌, ◌-◌, ◌*◌, ◌^◌, ◌<◌, ◌≤◌, Bool, true, T, eqb, ltb, List, [], ◌∷◌, ◌++◌, length, get_or, drop, replicate, sym, refl, ap, ◌∙◌, subst, ⊎_elim, pow-suc, arith, eqb→eq, ltb→lt, pow_pos}
+use Rattle.std.proofs.Common.{◌≡◌, ℕ, zero, suc, ◌+◌, ◌-◌, ◌*◌, ◌^◌, ◌<◌, ◌≤◌, T, eqb, ltb, List, [], ◌∷◌, ◌++◌, length, get_or, drop, replicate, sym, refl, ap, ◌∙◌, subst, ⊎_elim, pow-suc, arith, eqb→eq, ltb→lt, pow_pos}
 use lib.Bits.{bit_and, and_zero_l}
 use Rattle.std.proofs.lemmas.List.{get_or_past, get_or-drop, ext_get_or, length-append, length-replicate, get_or_append_left, get_or-append_right, get_or-replicate}
 use Rattle.std.proofs.lemmas.Bool.{cases_lt}
@@ -7,7 +7,7 @@ use Rattle.cyclic.specs.Maps.{Linear}
 use Rattle.cyclic.proofs.Units.{all_below, each_below}
 use Rattle.generator.specs.Matrix.{parity, image, Shaped}
 use Rattle.generator.proofs.Parity.{parity_none}
-use Rattle.generator.proofs.Images.{image_below, image_sum, image_linear, parity_below}
+use Rattle.generator.proofs.Images.{image_sum, image_linear, parity_below}
 
 -- rows that are written out, by a test
 pub low_rows : (bound : ℕ) (rows : List ℕ) → 0 < bound → T (all_below (length rows) (λ k. ltb (get_or rows k 0) bound)) → (k : ℕ) → get_or rows k 0 < bound

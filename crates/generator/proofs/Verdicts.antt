@@ -1,12 +1,12 @@
 -- From what the judge's steps found to the conditions of its verdict.
-use Rattle.std.proofs.Common.{◌≡◌, ℕ, zero, suc, ◌+◌, ◌%◌, ◌^◌, ◌<◌, ◌≤◌, true, false, List, length, get_or, is_ok, Ok, Err, Result, sym, refl, ap, ◌∙◌, subst, ⊎_elim, arith, pow_mono}
+use Rattle.std.proofs.Common.{◌≡◌, ℕ, ◌%◌, ◌^◌, ◌<◌, ◌≤◌, List, get_or, Ok, Err, Result, sym, refl, ◌∙◌, subst, ⊎_elim, arith, pow_mono}
 use Rattle.std.proofs.lemmas.Bool.{cases_eq, false≢true}
 use Rattle.refusals.specs.declared.Refusal.{Refusal}
-use Rattle.cyclic.specs.Maps.{power, Linear, Returns, OnlyZero, DivisorTest, InvertibleSums}
+use Rattle.cyclic.specs.Maps.{power, Linear, Returns, DivisorTest}
 use Rattle.cyclic.proofs.Powers.{power_words}
 use Rattle.cyclic.proofs.Orders.{judge_theorem}
-use Rattle.generator.specs.Matrix.{image, Shaped, Fixes, FailsAt}
-use Rattle.generator.specs.Judge.{LawfulWidth, LawfulOrder, Accepted, Refused, width, order, shape, not_cyclic, fixed_word, Verdict, Suitable, AcceptsExactly}
+use Rattle.generator.specs.Matrix.{image, Fixes, FailsAt}
+use Rattle.generator.specs.Judge.{Accepted, Refused, width, order, shape, not_cyclic, fixed_word, Verdict, Suitable, AcceptsExactly}
 use Rattle.generator.proofs.Images.{image_sum}
 use Rattle.generator.proofs.Shapes.{image_same, shaped_linear}
 

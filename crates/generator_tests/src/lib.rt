@@ -1,3 +1,5 @@
+#![tactic(auto)]
+
 // Worked figures of the judge and of matrices, run. Expected values come from the worked figures and from the field of order 256, not from this program.
 #[cfg(test)]
 mod tests {

@@ -1,4 +1,6 @@
 // Arithmetic on whole blocks, and encoding: from the data columns of a stripe to its two parities.
+#![tactic(auto)]
+
 mod block;
 mod encoding;
 mod sums;

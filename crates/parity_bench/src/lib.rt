@@ -1,4 +1,6 @@
 // Encoding and the maps of recovery, exported for the benchmark in bench/encode. Each call promises what the calls below it do.
+#![tactic(auto)]
+
 ghost use Rattle.std.specs.Prelude.{◌≡◌, ℕ, ◌-◌, ◌%◌, true, false, List, MatchBool};
 ghost use Rattle.codes.specs.Blocks.{Multiplied};
 ghost use Rattle.codes.specs.Doubling.{shift, double};

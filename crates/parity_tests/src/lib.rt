@@ -1,3 +1,5 @@
+#![tactic(auto)]
+
 // Examples of block arithmetic and encoding, and P and Q of another RAID-6 program.
 #[cfg(test)]
 mod vectors;

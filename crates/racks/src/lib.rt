@@ -1,4 +1,6 @@
 // Racks: what any set of drives means, and the flat, the joined and the image rack.
+#![tactic(auto)]
+
 ghost use Rattle.std.specs.Prelude.{◌≡◌};
 ghost use Rattle.racks.specs.States.{state_number};
 

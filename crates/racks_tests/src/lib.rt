@@ -1,3 +1,5 @@
+#![tactic(auto)]
+
 // Examples of what racks answer. They are proved to be safe and are then run.
 #[cfg(test)]
 mod flat;

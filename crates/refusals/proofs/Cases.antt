@@ -1,6 +1,6 @@
 -- From a number and its values back to the case.
 use Rattle.std.proofs.Common.{◌≡◌, ℕ, cond, eqb, List, get_or, sym, refl, ◌∙◌}
-use Rattle.refusals.specs.Table.{number, carried, Refuses, Told}
+use Rattle.refusals.specs.Table.{number, carried, Told}
 use Rattle.refusals.specs.declared.Refusal.{Refusal}
 use Rattle.refusals.specs.declared.Refusal.TheVariants.{SheetForm, Width, Order, Rows, NotCyclic, FixedWord, NoDrive, NoBlock, BufferSize, NotLive, DriveLive, DoesNotFit, TooManyMissing}
 

@@ -1,4 +1,6 @@
 // The closed list of refusals: every call that turns its caller down answers one of these.
+#![tactic(auto)]
+
 ghost use Rattle.std.specs.Prelude.{◌≡◌, Some};
 ghost use Rattle.refusals.specs.Table.{number, carried, line, Told};
 

@@ -1,12 +1,12 @@
 -- One answer to each text.
-use Rattle.std.proofs.Common.{◌≡◌, ℕ, ◌+◌, ◌-◌, ◌^◌, ◌<◌, ◌≤◌, ◌⊎◌, List, [], ◌∷◌, ◌++◌, length, get_or, take, Ok, Err, Result, sym, refl, ap, ◌∙◌, subst, inl, inr, append-nil, arith}
+use Rattle.std.proofs.Common.{◌≡◌, ℕ, ◌^◌, ◌<◌, List, [], get_or, take, Ok, Err, Result, sym, refl, ap, ◌∙◌, subst, inr, append-nil, arith}
 use native.Mathlib.Decide.{dec_lt}
 use Rattle.std.proofs.lemmas.List.{ext_get_or, length-take-le, get_or-take}
 use Rattle.std.proofs.ByRecursion.{All-take}
 use Rattle.refusals.specs.declared.Refusal.{Refusal}
-use Rattle.refusals.specs.declared.Refusal.TheVariants.{SheetForm, Width, Order}
+use Rattle.refusals.specs.declared.Refusal.TheVariants.{SheetForm}
 use Rattle.sheets.specs.declared.read.Sheet.{Sheet}
-use Rattle.sheets.specs.Text.{header, body, sheet, FirstBadLine}
+use Rattle.sheets.specs.Text.{body, FirstBadLine}
 use Rattle.sheets.specs.Reading.{Rows}
 use Rattle.generator.specs.Judge.{LawfulWidth, LawfulOrder}
 use Rattle.sheets.specs.Verdict.{LineOne, Accepted, Refused, form, width, order, ReadsSheet, Only, FormFacts, Answered}

@@ -1,15 +1,13 @@
 -- The first bytes of a text decide.
-use Rattle.std.proofs.Common.{◌≡◌, ℕ, zero, suc, ◌+◌, ◌-◌, ◌*◌, ◌^◌, ◌<◌, ◌≤◌, ◌⊎◌, List, [], ◌∷◌, ◌++◌, length, take, drop, Ok, Err, decimal, Result, sym, refl, ap, ◌∙◌, subst, inl, inr, append_assoc, append-nil, arith, length-append}
+use Rattle.std.proofs.Common.{◌≡◌, ℕ, ◌*◌, ◌<◌, ◌≤◌, List, [], ◌∷◌, ◌++◌, length, take, drop, Ok, Err, Result, sym, refl, ap, ◌∙◌, subst, inl, inr, append_assoc, arith, length-append}
 use native.Mathlib.Decide.{dec_le}
 use Rattle.std.proofs.lemmas.Fmt.{length-decimal-le}
 use Rattle.std.proofs.lemmas.List.{take_all, length-take-le, take-append-drop}
 use Rattle.refusals.specs.declared.Refusal.{Refusal}
 use Rattle.sheets.specs.declared.read.Sheet.{Sheet}
-use Rattle.sheets.specs.Text.{digits, feed, header, body, sheet, NoHeader, NoRow, BadRow, FirstBadLine, in_header, in_rows}
-use Rattle.generator.specs.Judge.{LawfulWidth, LawfulOrder}
-use Rattle.sheets.specs.Verdict.{LineOne, Accepted, Refused, form, width, order, ReadsSheet, Enough}
+use Rattle.sheets.specs.Text.{digits, feed, header, body, sheet, BadRow, in_header, in_rows}
+use Rattle.sheets.specs.Verdict.{LineOne, form, width, order, ReadsSheet, Enough}
 use Rattle.sheets.proofs.Rows.{length_digits}
-use Rattle.sheets.proofs.Whole.{bad_within}
 
 pub length_header : (n N : ℕ) → n < 1000 → N < 1000 → length (header n N) ≤ 8
 length_header n N a b =

@@ -1,5 +1,5 @@
 -- From a sheet that was read and the judge's verdict on its matrix to the verdict on the text.
-use Rattle.std.proofs.Common.{◌≡◌, ℕ, ◌-◌, ◌≤◌, List, ◌++◌, length, take, replicate, Ok, Err, Result, sym, refl, ap, ◌∙◌, subst, arith}
+use Rattle.std.proofs.Common.{◌≡◌, ℕ, ◌-◌, List, ◌++◌, length, take, replicate, Ok, Err, Result, sym, ap, ◌∙◌, arith}
 use Rattle.std.proofs.lemmas.List.{length-take-le, take_at}
 use Rattle.refusals.specs.declared.Refusal.{Refusal}
 use Rattle.generator.specs.declared.record.Generator.{Generator}
@@ -7,7 +7,7 @@ use Rattle.generator.specs.Judge as judge
 use Rattle.sheets.specs.declared.read.Sheet.{Sheet}
 use Rattle.sheets.specs.Text.{sheet}
 use Rattle.sheets.specs.Verdict as form
-use Rattle.sheets.specs.Judged.{SheetOf, Refused, unread, unlawful, JudgesSheet}
+use Rattle.sheets.specs.Judged.{unlawful, JudgesSheet}
 
 pub judged : (text : List ℕ) (s : Sheet) (rows : List ℕ) (r : Result (Unit {0}) Refusal) (before after : Generator)
     → form.Accepted text s → rows ≡ take s.width s.rows → judge.Verdict s.width s.order rows r → judge.Replaced s.width s.order rows r before after

@@ -1,13 +1,13 @@
 -- The reader row by row.
-use Rattle.std.proofs.Common.{◌≡◌, ℕ, zero, suc, ◌+◌, ◌-◌, ◌*◌, ◌^◌, ◌<◌, ◌≤◌, min, ◌≢◌, ◌⊎◌, List, [], ◌∷◌, ◌++◌, length, get_or, take, drop, set, replicate, Ok, Err, sym, refl, ap, ◌∙◌, subst, inl, inr, append_assoc, append-nil, add-one, arith, length-append, length-set, pow_pos}
+use Rattle.std.proofs.Common.{◌≡◌, ℕ, zero, suc, ◌+◌, ◌-◌, ◌^◌, ◌<◌, ◌≤◌, min, ◌≢◌, List, [], ◌∷◌, ◌++◌, length, get_or, take, set, replicate, Ok, Err, sym, refl, ap, ◌∙◌, subst, inl, inr, append_assoc, add-one, arith, length-set, pow_pos}
 use Rattle.std.specs.List.{AllByRecursion as All}
-use Rattle.std.proofs.lemmas.List.{take_more_set, length-take-le, get_or-set_other, length_push, take_all}
-use Rattle.std.proofs.ByRecursion.{All-push, All-set, All-take}
+use Rattle.std.proofs.lemmas.List.{take_more_set, length-take-le, get_or-set_other, length_push}
+use Rattle.std.proofs.ByRecursion.{All-push, All-set}
 use Rattle.refusals.specs.declared.Refusal.{Refusal}
-use Rattle.refusals.specs.declared.Refusal.TheVariants.{SheetForm, Width}
+use Rattle.refusals.specs.declared.Refusal.TheVariants.{SheetForm}
 use Rattle.sheets.specs.declared.reader.SheetReader.{SheetReader}
-use Rattle.sheets.specs.Text.{digits, feed, body, NoRow, BadRow}
-use Rattle.sheets.specs.Reading.{left, on, Rows, Stands, ReadsRow, ReadsRows, ReadsBody}
+use Rattle.sheets.specs.Text.{digits, feed, body}
+use Rattle.sheets.specs.Reading.{left, on, Rows, Stands, ReadsRows, ReadsBody}
 
 pub body_push : (n : ℕ) (rows : List ℕ) (row : ℕ) → body n (rows ++ row ∷ []) ≡ body n rows ++ (digits n row ++ feed ∷ [])
 body_push n [] row = refl

@@ -1,7 +1,7 @@
 -- A text can be read in one way only.
-use Rattle.std.proofs.Common.{◌≡◌, ℕ, zero, suc, ◌+◌, ◌-◌, ◌*◌, ◌/◌, ◌%◌, ◌^◌, ◌<◌, ◌≤◌, ◌⊎◌, List, [], ◌∷◌, ◌++◌, length, get_or, take, drop, sym, refl, ap, ◌∙◌, subst, inl, inr, append_assoc, append-nil, pow-suc, arith}
+use Rattle.std.proofs.Common.{◌≡◌, ℕ, zero, suc, ◌+◌, ◌-◌, ◌*◌, ◌/◌, ◌%◌, ◌^◌, ◌<◌, ◌⊎◌, List, [], ◌∷◌, ◌++◌, length, get_or, drop, sym, refl, ap, ◌∙◌, subst, inl, inr, append_assoc, append-nil, pow-suc, arith}
 use Rattle.std.specs.List.{AllByRecursion as All}
-use Rattle.sheets.specs.Text.{digits, feed, header, body, sheet, NoHeader, NoRow, BadRow, FirstBadLine, in_header, in_rows}
+use Rattle.sheets.specs.Text.{digits, feed, body, sheet, NoRow, BadRow, FirstBadLine, in_header, in_rows}
 use Rattle.sheets.proofs.Rows.{length_digits, same_fronts}
 use Rattle.sheets.proofs.Whole.{one_header, bad_within}
 

@@ -1,13 +1,12 @@
 -- From the reader's steps to the verdict on the whole text.
-use Rattle.std.proofs.Common.{◌≡◌, ℕ, zero, suc, ◌+◌, ◌-◌, ◌*◌, ◌^◌, ◌<◌, ◌≤◌, min, ◌⊎◌, List, [], ◌∷◌, ◌++◌, length, get_or, take, drop, Ok, Err, decimal, sym, refl, ap, ◌∙◌, subst, inl, inr, append_assoc, append-nil, arith}
+use Rattle.std.proofs.Common.{◌≡◌, ℕ, zero, suc, ◌+◌, ◌<◌, ◌≤◌, List, ◌∷◌, ◌++◌, Ok, Err, decimal, sym, refl, ap, ◌∙◌, subst, inl, inr, arith}
 use Rattle.refusals.specs.declared.Refusal.{Refusal}
-use Rattle.refusals.specs.declared.Refusal.TheVariants.{SheetForm, Width, Order}
+use Rattle.refusals.specs.declared.Refusal.TheVariants.{SheetForm}
 use Rattle.sheets.specs.declared.reader.SheetReader.{SheetReader}
-use Rattle.sheets.specs.declared.read.Sheet.{Sheet}
-use Rattle.sheets.specs.Text.{header, feed, body, sheet, NoHeader, BadRow, FirstBadLine, in_header, in_rows}
-use Rattle.sheets.specs.Reading.{left, on, Rows, ReadsHeader, ReadsBody}
+use Rattle.sheets.specs.Text.{header, feed, NoHeader, BadRow, in_header, in_rows}
+use Rattle.sheets.specs.Reading.{left, on, ReadsBody}
 use Rattle.generator.specs.Judge.{LawfulWidth, LawfulOrder}
-use Rattle.sheets.specs.Verdict.{LineOne, Accepted, Refused, form, width, order, ReadsSheet}
+use Rattle.sheets.specs.Verdict.{LineOne, Accepted, Refused, form}
 use Rattle.sheets.proofs.Numbers.{same_number, header_parts}
 
 pub one_header : (n N n' N' : ℕ) (r r' : List ℕ) → n < 1000 → N < 1000 → n' < 1000 → N' < 1000

@@ -2,7 +2,7 @@
 use Rattle.std.specs.Prelude.{◌≡◌, ℕ, zero, suc, ◌+◌, ◌-◌, ◌^◌, ◌<◌, ◌≤◌, min, ◌⊎◌, List, [], ◌∷◌, ◌++◌, length, take, Ok, Err, Result, ◌≢◌, slice_index}
 use Rattle.std.specs.List.{AllByRecursion as All}
 use Rattle.refusals.specs.declared.Refusal.{Refusal}
-use Rattle.refusals.specs.declared.Refusal.TheVariants.{SheetForm, Width, Order}
+use Rattle.refusals.specs.declared.Refusal.TheVariants.{SheetForm, Width}
 use Rattle.sheets.specs.declared.reader.SheetReader.{SheetReader}
 use Rattle.sheets.specs.Text.{digits, feed, header, body, NoHeader, NoRow, BadRow}
 

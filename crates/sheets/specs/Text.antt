@@ -1,5 +1,5 @@
 -- The text of a sheet, and which of its lines is the first that is not of the form.
-use Rattle.std.specs.Prelude.{◌≡◌, ℕ, zero, suc, ◌+◌, ◌/◌, ◌%◌, ◌^◌, ◌<◌, ◌≤◌, ◌⊎◌, List, [], ◌∷◌, ◌++◌, length, decimal, ◌≢◌}
+use Rattle.std.specs.Prelude.{◌≡◌, ℕ, zero, suc, ◌+◌, ◌/◌, ◌%◌, ◌^◌, ◌<◌, ◌⊎◌, List, [], ◌∷◌, ◌++◌, length, decimal, ◌≢◌}
 use Rattle.std.specs.List.{AllByRecursion as All}
 
 -- the digits of a row of n columns: digit j, from the left, is bit j

@@ -1,4 +1,6 @@
 // The reader of sheets.
+#![tactic(auto)]
+
 mod judged;
 mod lines;
 mod read;

@@ -1,4 +1,5 @@
 // Examples of sheets and of texts that are none.
+#![tactic(auto)]
 
 #[cfg(test)]
 mod tests {

@@ -1,5 +1,5 @@
 -- Fillings of covered columns, from words to blocks.
-use Rattle.std.proofs.Common.{◌≡◌, ℕ, ◌+◌, ◌-◌, ◌*◌, ◌^◌, ◌<◌, ◌≤◌, Bool, true, false, cond, eqb, List, sym, refl, ap, ◌∙◌, subst, ⊎_elim, arith}
+use Rattle.std.proofs.Common.{◌≡◌, ℕ, ◌-◌, ◌*◌, ◌<◌, Bool, true, false, cond, eqb, List, sym, refl, ap, ◌∙◌, subst, ⊎_elim, arith}
 use Rattle.std.proofs.lemmas.Bool.{cases_eq, cases_order}
 use Rattle.cyclic.specs.Maps.{Lawful}
 use Rattle.cyclic.specs.Columns.{Codeword}
@@ -7,7 +7,6 @@ use Rattle.cyclic.specs.Columns as words
 use Rattle.cyclic.proofs.Filling.{filling_theorem}
 use Rattle.codes.specs.Blocks.{word}
 use Rattle.codes.proofs.Words.{word_below, same_block}
-use Rattle.parity.specs.Blocks.{IsBlock}
 use Rattle.parity.specs.Codeword.{Codewords, Fits}
 use Rattle.stripes.specs.Filling.{Blocks, filled, SameOutside, OneFilling, Fillings}
 use Rattle.stripes.proofs.Packing.{pack, pack_block, pack_word}

@@ -1,8 +1,8 @@
 -- One column of the pass over the data: what it adds to the two sums, and to the columns that are lost.
-use Rattle.std.proofs.Common.{◌≡◌, ℕ, zero, suc, ◌+◌, ◌-◌, ◌*◌, ◌^◌, ◌<◌, ◌≤◌, Bool, true, false, cond, ◌⊎◌, List, [], replicate, Some, None, Option, sym, refl, ap, ◌∙◌, subst, inl, inr, ⊎_elim, suc-add, arith, pow_pos}
+use Rattle.std.proofs.Common.{◌≡◌, ℕ, suc, ◌+◌, ◌-◌, ◌^◌, ◌<◌, ◌≤◌, true, false, cond, List, [], replicate, Some, None, Option, sym, ap, ◌∙◌, subst, inl, inr, ⊎_elim, suc-add, arith, pow_pos}
 use lib.Count.{ones}
-use Rattle.std.proofs.lemmas.Bool.{cases_eq, cases_lt, cases_Bool, cond-true, cond-false, false≢true}
-use Rattle.cyclic.specs.Maps.{◌⊕◌, sum, power, Linear}
+use Rattle.std.proofs.lemmas.Bool.{cases_eq, cases_Bool, cond-true, cond-false, false≢true}
+use Rattle.cyclic.specs.Maps.{sum, power, Linear}
 use Rattle.cyclic.specs.Columns.{share}
 use Rattle.cyclic.proofs.Sums.{sum_same}
 use Rattle.codes.specs.Blocks.{word, FillsBlock}

@@ -1,13 +1,13 @@
 -- What is known of a rack after reads: nothing at first, and one read after another.
-use Rattle.std.proofs.Common.{◌≡◌, ℕ, ◌+◌, ◌<◌, ◌≤◌, Bool, true, false, ◌⊎◌, List, sym, refl, ap, ◌∙◌, subst, inl, inr, ⊎_elim, arith}
-use Rattle.std.proofs.lemmas.Bool.{cases_eq, cases_Bool, false≢true, true≢false}
+use Rattle.std.proofs.Common.{◌≡◌, ℕ, ◌<◌, true, List, sym, refl, ap, ◌∙◌, subst, inl, inr, ⊎_elim, arith}
+use Rattle.std.proofs.lemmas.Bool.{cases_eq, cases_Bool, false≢true}
 use Rattle.racks.specs.declared.DriveState.{DriveState}
-use Rattle.racks.specs.declared.DriveState.TheVariants.{Live, Failed, Pulled}
-use Rattle.racks.specs.Meaning.{Meaning, SameDrive, SameBut, Same}
+use Rattle.racks.specs.declared.DriveState.TheVariants.{Live, Failed}
+use Rattle.racks.specs.Meaning.{Meaning, SameDrive, Same}
 use Rattle.refusals.specs.declared.Refusal.{Refusal}
-use Rattle.racks.specs.Calls.{Lawful, Unlawful, no_drive, no_block, buffer_size, Fails, Refused, unlawful, not_live, fails}
+use Rattle.racks.specs.Calls.{Unlawful, no_drive, no_block, buffer_size, Fails, Refused, unlawful, not_live, fails}
 use Rattle.stripes.specs.Marks.{marked}
-use Rattle.stripes.specs.Touches.{FailsNow, Known, Holding, columns_of}
+use Rattle.stripes.specs.Touches.{Known, Holding, columns_of}
 
 failed_live : (s : DriveState) → s ≡ Failed → s ≡ Live → ⊥
 failed_live s f l = let z : ◌≡◌ {A = ℕ} 0 1 = cc in omega arith

@@ -1,7 +1,7 @@
 -- Marks as bits: a mark that is set, and how many there are.
-use Rattle.std.proofs.Common.{◌≡◌, ℕ, zero, suc, ◌+◌, ◌-◌, ◌*◌, ◌/◌, ◌%◌, ◌^◌, ◌<◌, ◌≤◌, Bool, true, false, eqb, ◌⊎◌, sym, refl, ap, ◌∙◌, subst, inl, inr, ⊎_elim, pow-suc, div-one, one-add, arith, pow_pos, pow_mono, pow-add}
+use Rattle.std.proofs.Common.{◌≡◌, ℕ, zero, suc, ◌+◌, ◌-◌, ◌*◌, ◌/◌, ◌%◌, ◌^◌, ◌<◌, ◌≤◌, true, false, eqb, sym, refl, ap, ◌∙◌, ⊎_elim, pow-suc, div-one, one-add, arith, pow_mono, pow-add}
 use native.Mathlib.Nat.{mul-mod_left, div-eq_of_lt}
-use lib.Bits.{bit_and, bit_or, or_shr, or_mod, and_mask, or_zero_r}
+use lib.Bits.{bit_or, or_shr, or_mod, or_zero_r}
 use lib.Count.{ones, ones_step}
 use lib.Pow.{pow-lt}
 use Rattle.std.proofs.lemmas.Nat.{shl-shr, shr-shr}

@@ -1,16 +1,16 @@
 -- A block with given words.
-use Rattle.std.proofs.Common.{◌≡◌, ℕ, zero, suc, ◌+◌, ◌-◌, ◌*◌, ◌/◌, ◌%◌, ◌^◌, ◌<◌, ◌≤◌, List, map, length, get_or, sym, refl, ap, ◌∙◌, subst, ⊎_elim, add-zero, mod-eq_of_lt, mul_comm, add_comm, zero-add, mul-one, div-one, one-add, arith}
+use Rattle.std.proofs.Common.{◌≡◌, ℕ, zero, suc, ◌+◌, ◌*◌, ◌/◌, ◌%◌, ◌^◌, ◌<◌, List, map, sym, ap, ◌∙◌, subst, ⊎_elim, add-zero, mod-eq_of_lt, mul_comm, zero-add, mul-one, one-add, arith}
 use native.Mathlib.Nat.{mod-one}
 use lib.Pow.{mod-pow-add}
 use Rattle.std.specs.List.{range_with_len}
-use Rattle.std.proofs.lemmas.Nat.{mod_below, div-mul-add, mod-mul-add, div-add-mod'}
+use Rattle.std.proofs.lemmas.Nat.{mod_below, div-mul-add, mod-mul-add}
 use Rattle.std.proofs.lemmas.List.FromFn.{length-map-range_with_len, get_or-map-range_with_len}
 use Rattle.std.proofs.lemmas.List.{get_or_past}
 use Rattle.std.proofs.lemmas.Bool.{cases_lt}
 use Rattle.codes.specs.Blocks.{bit, number, word, FillsBlock}
 use Rattle.codes.proofs.Words.{number_same, number_below}
 use Rattle.parity.specs.Blocks.{IsBlock}
-use Rattle.parity.proofs.Fields.{number_field, positive}
+use Rattle.parity.proofs.Fields.{number_field}
 
 -- bit s of the words f of n bits, one after the other
 abbrev pub spot : ℕ → (ℕ → ℕ) → ℕ → ℕ

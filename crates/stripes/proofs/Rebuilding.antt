@@ -1,16 +1,15 @@
 -- From the data that was gathered and solved for to the asked column.
-use Rattle.std.proofs.Common.{◌≡◌, ℕ, zero, suc, ◌+◌, ◌-◌, ◌*◌, ◌%◌, ◌^◌, ◌<◌, ◌≤◌, Bool, true, false, cond, eqb, ◌⊎◌, List, sym, refl, ap, ◌∙◌, subst, inl, inr, ⊎_elim, arith}
+use Rattle.std.proofs.Common.{◌≡◌, ℕ, ◌+◌, ◌*◌, ◌<◌, ◌≤◌, true, false, cond, eqb, ◌⊎◌, List, sym, refl, ap, ◌∙◌, subst, ⊎_elim, arith}
 use lib.Bits.{xor_comm}
 use lib.Count.{ones}
 use Rattle.std.proofs.lemmas.Bool.{cases_eq, cases_lt, cases_Bool, cond-true, cond-false, eq-eqb, ne_eqb, false≢true}
 use Rattle.cyclic.specs.Maps.{◌⊕◌, sum, power, Lawful}
-use Rattle.cyclic.specs.Columns.{share, RecoveredData, own, Recovered, data_column, parity_left, encoded_p, encoded_q}
+use Rattle.cyclic.specs.Columns.{share, RecoveredData, own, data_column, parity_left, encoded_p, encoded_q}
 use Rattle.cyclic.proofs.Horner.{power_mod}
 use Rattle.cyclic.proofs.Powers.{power_zero}
 use Rattle.cyclic.proofs.Shares.{sum_below, sum_but_one}
 use Rattle.codes.specs.Blocks.{word, FillsBlock}
 use Rattle.codes.proofs.Words.{word_below}
-use Rattle.parity.specs.Blocks.{Added}
 use Rattle.stripes.specs.declared.gather.Lost.TheVariants.{None as Nothing, One, Two}
 use Rattle.stripes.specs.Marks.{marked}
 use Rattle.stripes.specs.Gathered.{LostFrom, SumsFrom}

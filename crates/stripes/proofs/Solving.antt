@@ -1,25 +1,21 @@
 -- The blocks that solving makes are the columns that the rules give.
-use Rattle.std.proofs.Common.{◌≡◌, ℕ, zero, suc, ◌+◌, ◌-◌, ◌*◌, ◌%◌, ◌^◌, ◌<◌, ◌≤◌, Bool, true, false, cond, ◌⊎◌, List, sym, refl, ap, ◌∙◌, subst, inl, inr, ⊎_elim, zero-add, arith, pow_pos}
+use Rattle.std.proofs.Common.{◌≡◌, ℕ, ◌+◌, ◌-◌, ◌*◌, ◌%◌, ◌<◌, ◌≤◌, Bool, true, false, cond, List, sym, ap, ◌∙◌, inl, inr, ⊎_elim, zero-add, arith}
 use native.Mathlib.Nat.{sub-zero}
-use lib.Bits.{xor_comm, xor_lt}
+use lib.Bits.{xor_comm}
 use lib.Count.{ones}
-use Rattle.std.proofs.lemmas.Bool.{cases_eq, cases_lt, cases_Bool, cond-true, cond-false, false≢true}
-use Rattle.racks.specs.declared.DriveState.TheVariants.{Live}
-use Rattle.racks.specs.Meaning.{Meaning}
-use Rattle.cyclic.specs.Maps.{◌⊕◌, sum, power, Linear, Lawful}
+use Rattle.std.proofs.lemmas.Bool.{cases_eq, cases_lt, false≢true}
+use Rattle.cyclic.specs.Maps.{◌⊕◌, sum, power, Lawful}
 use Rattle.cyclic.specs.Theorems.{undo}
-use Rattle.cyclic.specs.Columns.{OnlyMissing, share, ΔP, ΔQ, RecoveredData, own, by_p, by_q, upper, lower}
+use Rattle.cyclic.specs.Columns.{OnlyMissing, share, ΔP, ΔQ, by_p, by_q, upper, lower}
 use Rattle.cyclic.proofs.Horner.{power_mod}
-use Rattle.cyclic.proofs.Powers.{power_words}
-use Rattle.cyclic.proofs.Shares.{sum_below, sum_words_below}
+use Rattle.cyclic.proofs.Shares.{sum_below}
 use Rattle.codes.specs.Blocks.{word, FillsBlock, Multiplied}
 use Rattle.codes.proofs.Words.{word_below}
 use Rattle.parity.specs.Blocks.{Added}
-use Rattle.stripes.specs.declared.gather.Lost.TheVariants.{None as Nothing, One, Two}
+use Rattle.stripes.specs.declared.gather.Lost.TheVariants.{One, Two}
 use Rattle.stripes.specs.Marks.{marked}
 use Rattle.stripes.specs.Gathered.{LostFrom, SumsFrom}
 use Rattle.stripes.specs.Solved.{SolvedData, SameData}
-use Rattle.stripes.specs.Touches.{Holding, Known, columns_of}
 use Rattle.stripes.proofs.MarkBits.{three_marks}
 
 share_marks : (b b' : Bool) (x : ℕ) → b ≡ b' → cond b 0 x ≡ cond b' 0 x

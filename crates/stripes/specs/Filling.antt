@@ -1,5 +1,5 @@
 -- Covered columns and their fillings, as blocks of bytes.
-use Rattle.std.specs.Prelude.{◌≡◌, ℕ, ◌+◌, ◌-◌, ◌<◌, cond, List, ◌==◌, ◌≢◌}
+use Rattle.std.specs.Prelude.{◌≡◌, ℕ, ◌-◌, ◌<◌, cond, List, ◌==◌, ◌≢◌}
 use Rattle.parity.specs.Blocks.{IsBlock}
 use Rattle.parity.specs.Codeword.{Codewords, Fits}
 

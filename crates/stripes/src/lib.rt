@@ -1,4 +1,6 @@
 // Recovery of a stripe's columns, over any reading rack and any code.
+#![tactic(auto)]
+
 mod columns;
 mod gather;
 mod marks;

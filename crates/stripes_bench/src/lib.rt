@@ -1,4 +1,6 @@
 // Encoding and recovery of a stripe of ten data columns, exported for the benchmark in bench/recover. Each call promises what the calls below it do.
+#![tactic(auto)]
+
 ghost use Rattle.std.specs.Prelude.{◌≡◌, true, false, MatchBool};
 ghost use Rattle.codes.specs.Doubling.{shift, double};
 ghost use Rattle.parity.specs.Encoding.{Encoded};

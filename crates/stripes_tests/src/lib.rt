@@ -1,3 +1,5 @@
+#![tactic(auto)]
+
 // Recoveries on examples, over racks of each kind. They are proved to be safe and are then run.
 #[cfg(test)]
 mod edges;

@@ -1,8 +1,8 @@
-use Rattle.std.proofs.Common.{◌≡◌, ℕ, ◌+◌, ◌%◌, ◌^◌, ◌<◌, ◌≤◌, List, length, get_or, sym, refl, ap, ◌∙◌, subst, arith, rules}
+use Rattle.std.proofs.Common.{◌≡◌, ℕ, ◌^◌, ◌<◌, get_or, sym, refl, ◌∙◌, subst, arith, rules}
 use Rattle.std.proofs.lemmas.List.{get_or_past}
-use Rattle.cyclic.specs.Maps.{power, Linear, Returns, DivisorTest}
+use Rattle.cyclic.specs.Maps.{Linear, Returns, DivisorTest}
 use Rattle.generator.specs.Matrix.{image, Shaped, FailsAt}
-use Rattle.generator.specs.Judge.{Accepted, Holds, Refused, width, order, shape, not_cyclic, fixed_word}
+use Rattle.generator.specs.Judge.{width, order, shape, not_cyclic, fixed_word}
 use Rattle.generator.proofs.Shapes.{shaped_linear, padded}
 use Rattle.generator.proofs.Verdicts.{one_map, power_linear, once, often, none_fails}
 use Rattle.generator.proofs.judge.examine.Goals as goal

@@ -1,6 +1,5 @@
-use Rattle.std.proofs.Common.{◌≡◌, ℕ, Ok, Err, sym, refl, ap, ◌∙◌, subst}
+use Rattle.std.proofs.Common.{Ok, Err, refl}
 use Rattle.std.proofs.lemmas.Result.{err_from_is_err_and}
-use Rattle.generator.specs.Judge.{Verdict, Replaced, AcceptsExactly}
 use Rattle.generator.proofs.Verdicts.{exactly}
 use Rattle.generator.proofs.judge.judge.Goals as goal
 

@@ -1,5 +1,5 @@
-use Rattle.std.proofs.Common.{◌≡◌, ℕ, ◌+◌, ◌%◌, ◌<◌, ◌≤◌, sym, refl, ap, ◌∙◌, subst, below_more}
-use Rattle.generator.specs.Matrix.{image, Fixes, FailsAt}
+use Rattle.std.proofs.Common.{below_more}
+use Rattle.generator.specs.Matrix.{image, FailsAt}
 use Rattle.generator.proofs.Verdicts.{fixed_once}
 use Rattle.generator.proofs.judge.least_failing_divisor.Goals as goal
 use Rattle.generator.proofs.judge.least_failing_divisor.Goals.{else-order-m-eq0-via-then-order-m-eq0+else-fixes_a_word, else-order-m-eq0-via-else-order-m-eq0}

@@ -1,4 +1,4 @@
-use Rattle.std.proofs.Common.{◌≡◌, ℕ, ◌^◌, ◌<◌, ◌≤◌, length, get_or, sym, ◌∙◌, ⊎_elim, arith, pow_pos}
+use Rattle.std.proofs.Common.{sym, ◌∙◌, ⊎_elim, arith, pow_pos}
 use Rattle.std.proofs.lemmas.List.{get_or_past}
 use Rattle.std.proofs.lemmas.Bool.{cases_lt}
 use Rattle.generator.proofs.judge.shaped.Goals as goal

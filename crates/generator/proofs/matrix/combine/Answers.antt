@@ -1,7 +1,7 @@
-use Rattle.std.proofs.Common.{◌≡◌, ℕ, ◌+◌, ◌-◌, ◌*◌, ◌/◌, ◌%◌, ◌^◌, ◌<◌, ◌≤◌, length, get_or, drop, sym, refl, ap, ◌∙◌, subst, one-mul, zero-mul, arith, rules}
+use Rattle.std.proofs.Common.{◌≡◌, ℕ, ◌+◌, ◌*◌, ◌/◌, ◌%◌, ◌^◌, length, get_or, drop, sym, ap, ◌∙◌, one-mul, zero-mul, arith, rules}
 use lib.Bits.{bit_and, xor_assoc, xor_zero_l, xor_zero_r}
 use Rattle.cyclic.specs.Maps.{◌⊕◌}
-use Rattle.generator.specs.Matrix.{image, parity}
+use Rattle.generator.specs.Matrix.{parity}
 use Rattle.generator.proofs.Images.{combined, combined_step, combined_parity, combined_none}
 use Rattle.generator.proofs.matrix.combine.Goals as goal
 use Rattle.generator.proofs.matrix.combine.Goals.{then-row-i-eq1, else-row-i-eq1}

@@ -1,6 +1,6 @@
-use Rattle.std.proofs.Common.{◌≡◌, ℕ, ◌+◌, ◌-◌, ◌*◌, ◌^◌, ◌<◌, ◌≤◌, length, get_or, drop, sym, refl, ap, ◌∙◌, arith, length-drop, pow_mono, rules}
+use Rattle.std.proofs.Common.{◌≡◌, ℕ, ◌+◌, ◌-◌, ◌*◌, ◌^◌, ◌<◌, ◌≤◌, length, get_or, drop, sym, ap, ◌∙◌, arith, length-drop, pow_mono, rules}
 use lib.Bits.{bit_and}
-use Rattle.std.proofs.lemmas.List.{drop_all, at_drop_more}
+use Rattle.std.proofs.lemmas.List.{drop_all}
 use Rattle.generator.specs.Matrix.{image, parity}
 use Rattle.generator.proofs.Images.{image_below, image_step}
 use Rattle.generator.proofs.matrix.image.Goals as goal

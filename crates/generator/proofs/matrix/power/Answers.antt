@@ -1,4 +1,4 @@
-use Rattle.std.proofs.Common.{◌≡◌, sym, refl, ap, ◌∙◌, add-one}
+use Rattle.std.proofs.Common.{sym, ap, ◌∙◌, add-one}
 use Rattle.cyclic.specs.Maps.{power}
 use Rattle.generator.specs.Matrix.{image}
 use Rattle.generator.proofs.matrix.power.Goals as goal

@@ -1,4 +1,4 @@
-use Rattle.std.proofs.Common.{◌≡◌, ◌≤◌, length, arith, rules}
+use Rattle.std.proofs.Common.{◌≡◌, length, arith, rules}
 use Rattle.generator.specs.Matrix.{image}
 use Rattle.generator.proofs.Images.{image_by_rows}
 use Rattle.generator.proofs.matrix.product.Goals as goal

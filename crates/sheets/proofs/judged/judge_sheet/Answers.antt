@@ -1,7 +1,7 @@
-use Rattle.std.proofs.Common.{◌≡◌, ◌-◌, take, sym, refl, ap, ◌∙◌, subst}
+use Rattle.std.proofs.Common.{◌≡◌, ◌-◌, take, refl, ap, ◌∙◌}
 use native.Mathlib.Nat.{sub-zero}
 use Rattle.std.proofs.lemmas.Result.{err_from_is_err_and}
-use Rattle.sheets.specs.Judged.{JudgesSheet, Refused, unread, unlawful}
+use Rattle.sheets.specs.Judged.{unread}
 use Rattle.sheets.proofs.Judging.{judged}
 use Rattle.sheets.proofs.judged.judge_sheet.Goals as goal
 

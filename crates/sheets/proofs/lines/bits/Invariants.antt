@@ -1,4 +1,3 @@
-use Rattle.std.proofs.Common.{◌≡◌}
 use Rattle.sheets.proofs.Rows.{Read}
 use Rattle.sheets.proofs.lines.bits.Given as goal
 

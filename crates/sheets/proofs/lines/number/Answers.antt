@@ -1,4 +1,4 @@
-use Rattle.std.proofs.Common.{◌≡◌, sym, refl, ap, ◌∙◌, arith, rules, ltb-false, ltb-true}
+use Rattle.std.proofs.Common.{arith, rules, ltb-true}
 use Rattle.sheets.proofs.Numbers.{none_first, none_second, none_third, none_nowhere, found_first, found_second, found_third}
 use Rattle.sheets.proofs.lines.number.Goals as goal
 use Rattle.sheets.proofs.lines.number.Goals.{in_default-via-then-text-lt2, in_default-via-in-len2-up+else-e-end+then-text-lt3, in_default-via-in-len3-up+else-e-end-2+then-text-lt4, in_default-via-in-len4-up+else-e-end-3}

@@ -1,4 +1,4 @@
-use Rattle.std.proofs.Common.{◌≡◌, ℕ, ◌+◌, ◌<◌, [], ◌∷◌, Some, None, Option, sym, refl, ap, ◌∙◌, arith, MatchOption}
+use Rattle.std.proofs.Common.{◌≡◌, ℕ, ◌+◌, ◌<◌, [], ◌∷◌, Some, None, Option, sym, ap, ◌∙◌, arith, MatchOption}
 use Rattle.std.proofs.lemmas.Fmt.{decimal_digit}
 use Rattle.sheets.specs.Lines.{IsDecimal}
 use Rattle.sheets.proofs.Numbers.{no_one}

@@ -1,4 +1,4 @@
-use Rattle.std.proofs.Common.{◌≡◌, ◌<◌, length, get_or, ◌∙◌, arith, rules, ltb-false, ltb-true, eqb-true}
+use Rattle.std.proofs.Common.{◌≡◌, ◌<◌, length, get_or, ◌∙◌, arith, rules, ltb-true}
 use borrow.Author.Tests.{eqb-false}
 use Rattle.sheets.proofs.Rows.{no_row_short, no_row_feed, no_row_digits, row_found}
 use Rattle.sheets.proofs.lines.row_line.Goals as goal

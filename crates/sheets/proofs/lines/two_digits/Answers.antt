@@ -1,4 +1,4 @@
-use Rattle.std.proofs.Common.{◌≡◌, [], ◌∷◌, sym, refl, ap, ◌∙◌, arith}
+use Rattle.std.proofs.Common.{sym, arith}
 use Rattle.sheets.proofs.Numbers.{no_two, decimal_two}
 use Rattle.sheets.proofs.lines.two_digits.Goals as goal
 

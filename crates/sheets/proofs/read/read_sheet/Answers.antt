@@ -1,7 +1,6 @@
-use Rattle.std.proofs.Common.{◌≡◌, ◌++◌, sym, refl, ap, ◌∙◌, inl, inr, arith}
+use Rattle.std.proofs.Common.{sym, refl, ap, ◌∙◌, inl, inr, arith}
 use Rattle.std.proofs.lemmas.Result.{err_from_is_err_and}
-use Rattle.sheets.specs.Text.{header}
-use Rattle.sheets.specs.Reading.{left, on}
+use Rattle.sheets.specs.Reading.{on}
 use Rattle.sheets.specs.Verdict.{width, order}
 use Rattle.sheets.proofs.Whole.{refused_header, line_one, refused_body, accepted_body}
 use Rattle.sheets.proofs.Answer.{answered}

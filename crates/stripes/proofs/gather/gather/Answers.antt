@@ -1,4 +1,4 @@
-use Rattle.std.proofs.Common.{◌≡◌, ℕ, suc, ◌-◌, ◌<◌, ◌≤◌, sym, refl, ap, ◌∙◌, subst, arith}
+use Rattle.std.proofs.Common.{◌≡◌, ◌-◌, ◌≤◌, sym, ◌∙◌, subst, arith}
 use lib.Count.{ones}
 use Rattle.stripes.specs.Gathered.{SumsFrom, LostFrom}
 use Rattle.stripes.proofs.Knowing.{known_none, known_trans, holding_next}

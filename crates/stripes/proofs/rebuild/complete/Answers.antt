@@ -1,4 +1,4 @@
-use Rattle.std.proofs.Common.{◌≡◌, ℕ, ◌%◌, sym, refl, ap, ◌∙◌, subst, arith}
+use Rattle.std.proofs.Common.{◌%◌, subst, arith}
 use Rattle.cyclic.specs.Maps.{power}
 use Rattle.codes.specs.Blocks.{Multiplied}
 use Rattle.stripes.proofs.rebuild.complete.Goals as goal

@@ -1,7 +1,7 @@
-use Rattle.std.proofs.Common.{◌≡◌, ℕ, ◌+◌, ◌<◌, ◌≤◌, sym, refl, ap, ◌∙◌, subst, ⊎_elim, arith}
+use Rattle.std.proofs.Common.{◌≡◌, ◌≤◌, sym, subst, ⊎_elim}
 use lib.Count.{ones}
 use Rattle.stripes.specs.declared.gather.Lost.TheVariants.{One, Two}
-use Rattle.stripes.specs.Gathered.{SumsFrom, LostFrom}
+use Rattle.stripes.specs.Gathered.{LostFrom}
 use Rattle.stripes.specs.Touches.{columns_of}
 use Rattle.stripes.proofs.Knowing.{known_trans, holding_known}
 use Rattle.stripes.proofs.Rebuilding.{sum_is_p, sum_is_q, completed, asked_data, asked_one, is_data}

@@ -1,7 +1,6 @@
-use Rattle.std.proofs.Common.{◌≡◌, ℕ, ◌<◌, ◌≤◌, false, sym, refl, ap, ◌∙◌, subst, arith}
+use Rattle.std.proofs.Common.{◌≡◌, refl, ◌∙◌, subst, arith}
 use Rattle.parity.specs.Codeword.{Fits}
-use Rattle.stripes.specs.Marks.{marked}
-use Rattle.stripes.specs.Recovery.{RackFits, stray_mark}
+use Rattle.stripes.specs.Recovery.{stray_mark}
 use Rattle.stripes.proofs.recovery.permit.Goals as goal
 
 pub returns-in-Some : goal.returns-in-Some

@@ -1,4 +1,4 @@
-use Rattle.std.proofs.Common.{◌≡◌, ℕ, ◌-◌, ◌<◌, ◌≤◌, length, sym, refl, ap, ◌∙◌, subst, arith}
+use Rattle.std.proofs.Common.{◌-◌, sym, refl, ◌∙◌, subst}
 use Rattle.racks.proofs.Uses.{same_refl}
 use Rattle.parity.specs.Blocks.{IsBlock}
 use Rattle.stripes.specs.Recovery.{RecoveredBlock, unlawful, too_many}

@@ -1,4 +1,4 @@
-use Rattle.std.proofs.Common.{◌≡◌, ℕ, ◌+◌, ◌-◌, ◌%◌, ◌<◌, ◌≤◌, true, false, List, sym, refl, ap, ◌∙◌, subst, arith}
+use Rattle.std.proofs.Common.{◌≡◌, ◌+◌, ◌-◌, ◌%◌, ◌<◌, refl, ap, ◌∙◌, arith}
 use Rattle.cyclic.specs.Maps.{power}
 use Rattle.cyclic.specs.Theorems.{undo}
 use Rattle.stripes.specs.Marks.{marked}

@@ -1,4 +1,4 @@
-use Rattle.std.proofs.Common.{◌≡◌, ℕ, ◌<◌, ◌≤◌, eqb, ltb, List, [], ◌∷◌, get_or, replicate, refl, arith, eqb→eq, ltb→lt}
+use Rattle.std.proofs.Common.{ℕ, List, [], ◌∷◌, arith}
 use lib.Count.{ones, ones_in}
 use Rattle.generator.specs.Matrix.{image}
 use Rattle.generator.proofs.Decide.{returns_decided, divisors_decided}

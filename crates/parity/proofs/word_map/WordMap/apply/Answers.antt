@@ -1,4 +1,4 @@
-use Rattle.std.proofs.Common.{◌≡◌, ℕ, ◌<◌, List, get_or}
+use Rattle.std.proofs.Common.{ℕ, ◌<◌, List, get_or}
 use Rattle.parity.proofs.Bytes.{bytes_below, bytes_units}
 use Rattle.parity.proofs.Fields.{units_all}
 use Rattle.parity.proofs.word_map.WordMap.apply.Goals as goal

@@ -1,5 +1,5 @@
 use Rattle.std.proofs.lemmas.List.{nil_from_length}
-use Rattle.std.proofs.Common.{arith, rules, eqb-true}
+use Rattle.std.proofs.Common.{rules}
 use Rattle.sheets.proofs.reader.SheetReader.end.Goals as goal
 
 pub returns-then-is_empty : goal.returns-then-is_empty

@@ -1,4 +1,4 @@
-use Rattle.std.proofs.Common.{arith, rules}
+use Rattle.std.proofs.Common.{arith}
 use Rattle.sheets.proofs.Steps.{filling_none, filling_more, stands_none, stands_more}
 use Rattle.sheets.proofs.reader.SheetReader.rows.Goals as goal
 

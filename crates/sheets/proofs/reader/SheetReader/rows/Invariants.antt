@@ -1,4 +1,4 @@
-use Rattle.std.proofs.Common.{◌≤◌, take}
+use Rattle.std.proofs.Common.{take}
 use Rattle.sheets.specs.Reading.{Stands}
 use Rattle.sheets.proofs.Steps.{Filling}
 use Rattle.sheets.proofs.reader.SheetReader.rows.Given as goal
