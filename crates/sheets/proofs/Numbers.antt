@@ -1,7 +1,7 @@
 -- Numbers below 1000 at the front of a text, by their one, two or three digits.
 use Rattle.std.proofs.Common.{◌≡◌, ℕ, ◌+◌, ◌-◌, ◌*◌, ◌/◌, ◌%◌, ◌^◌, ◌<◌, ◌≤◌, List, [], ◌∷◌, ◌++◌, length, get_or, take, drop, decimal, sym, refl, ap, ◌∙◌, append_assoc, arith}
 use native.Mathlib.Decide.{dec_lt}
-use Rattle.std.specs.List.{AllByRecursion as All}
+use Rattle.std.specs.List.{AllByRecursion}
 use Rattle.std.proofs.lemmas.Fmt.{decimal_digit, decimal_step, decimal_injective}
 use Rattle.std.proofs.lemmas.List.{take_rest}
 use Rattle.sheets.specs.Lines.{NoDecimal, NoNumber}
@@ -155,7 +155,7 @@ module _ (end : ℕ) (text : List ℕ) (v : ℕ) where
   found_third l a s = split_four text l ∙ ap (λ x. get_or text 0 0 ∷ get_or text 1 0 ∷ get_or text 2 0 ∷ x ∷ drop 4 text) a ∙ ap (λ x. x ++ end ∷ drop 4 text) s ∙ ap (λ x. decimal v ++ end ∷ x) (sym (take_rest text 4))
 
 -- all bytes of a number are digits
-pub digits_high : (v : ℕ) → v < 1000 → All (λ b. 48 ≤ b) (decimal v)
+pub digits_high : (v : ℕ) → v < 1000 → AllByRecursion (λ b. 48 ≤ b) (decimal v)
 digits_high v h =
     elim (spelled v h) [
       | one k s ↦ rw s (omega arith, tt)
@@ -164,7 +164,7 @@ digits_high v h =
     ]
 
 -- two texts that are equal, each up to its first byte end
-pub up_to : (end : ℕ) → end < 48 → (xs ys : List ℕ) (r s : List ℕ) → All (λ b. 48 ≤ b) xs → All (λ b. 48 ≤ b) ys → xs ++ end ∷ r ≡ ys ++ end ∷ s → (xs ≡ ys) × (r ≡ s)
+pub up_to : (end : ℕ) → end < 48 → (xs ys : List ℕ) (r s : List ℕ) → AllByRecursion (λ b. 48 ≤ b) xs → AllByRecursion (λ b. 48 ≤ b) ys → xs ++ end ∷ r ≡ ys ++ end ∷ s → (xs ≡ ys) × (r ≡ s)
 up_to end low [] [] r s h k e = (refl, cc)
 up_to end low [] (y ∷ ys) r s h (k, ks) e = absurd (omega (arith, ap (λ l. get_or l 0 0) e))
 up_to end low (x ∷ xs) [] r s (h, hs) k e = absurd (omega (arith, ap (λ l. get_or l 0 0) e))

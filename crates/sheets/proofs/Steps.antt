@@ -1,6 +1,6 @@
 -- The reader row by row.
 use Rattle.std.proofs.Common.{◌≡◌, ℕ, zero, suc, ◌+◌, ◌-◌, ◌^◌, ◌<◌, ◌≤◌, min, ◌≢◌, List, [], ◌∷◌, ◌++◌, length, get_or, take, set, replicate, Ok, Err, sym, refl, ap, ◌∙◌, subst, inl, inr, append_assoc, add-one, arith, length-set, pow_pos}
-use Rattle.std.specs.List.{AllByRecursion as All}
+use Rattle.std.specs.List.{AllByRecursion}
 use Rattle.std.proofs.lemmas.List.{take_more_set, length-take-le, get_or-set_other, length_push}
 use Rattle.std.proofs.ByRecursion.{All-push, All-set}
 use Rattle.refusals.specs.declared.Refusal.{Refusal}
@@ -17,10 +17,10 @@ body_push n (x ∷ rows) row =
 -- the first i rows are read
 pub record Filling (n i : ℕ) (rows : List ℕ) : Type 0 where
   pub sixteen : length rows ≡ 16
-  pub words : All (λ row. row < 2 ^ n) rows
+  pub words : AllByRecursion (λ row. row < 2 ^ n) rows
   pub zeros : (k : ℕ) → i ≤ k → get_or rows k 0 ≡ 0
 
-all_zero : (n m : ℕ) → All (λ row. row < 2 ^ n) (replicate m 0)
+all_zero : (n m : ℕ) → AllByRecursion (λ row. row < 2 ^ n) (replicate m 0)
 all_zero n zero = tt
 all_zero n (suc m) = (pow_pos n, all_zero n m)
 

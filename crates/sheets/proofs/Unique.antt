@@ -1,6 +1,6 @@
 -- A text can be read in one way only.
 use Rattle.std.proofs.Common.{◌≡◌, ℕ, zero, suc, ◌+◌, ◌-◌, ◌*◌, ◌/◌, ◌%◌, ◌^◌, ◌<◌, ◌⊎◌, List, [], ◌∷◌, ◌++◌, length, get_or, drop, sym, refl, ap, ◌∙◌, subst, inl, inr, append_assoc, append-nil, pow-suc, arith}
-use Rattle.std.specs.List.{AllByRecursion as All}
+use Rattle.std.specs.List.{AllByRecursion}
 use Rattle.sheets.specs.Text.{digits, feed, body, sheet, NoRow, BadRow, FirstBadLine, in_header, in_rows}
 use Rattle.sheets.proofs.Rows.{length_digits, same_fronts}
 use Rattle.sheets.proofs.Whole.{one_header, bad_within}
@@ -24,7 +24,7 @@ abbrev pub Stop : ℕ → ℕ → List ℕ → Type 0
 Stop n m rest = ((0 < m) × NoRow n rest) ⊎ (m ≡ 0)
 
 abbrev pub Words : ℕ → List ℕ → Type 0
-Words n rows = All (λ row. row < 2 ^ n) rows
+Words n rows = AllByRecursion (λ row. row < 2 ^ n) rows
 
 joined : (n x : ℕ) (xs rest : List ℕ) → body n (x ∷ xs) ++ rest ≡ digits n x ++ feed ∷ (body n xs ++ rest)
 joined n x xs rest = append_assoc (digits n x) (feed ∷ body n xs) rest

@@ -1,6 +1,6 @@
 -- What each call of the reader does, by the text that is left and the line that it begins with.
 use Rattle.std.specs.Prelude.{◌≡◌, ℕ, zero, suc, ◌+◌, ◌-◌, ◌^◌, ◌<◌, ◌≤◌, min, ◌⊎◌, List, [], ◌∷◌, ◌++◌, length, take, Ok, Err, Result, ◌≢◌, slice_index}
-use Rattle.std.specs.List.{AllByRecursion as All}
+use Rattle.std.specs.List.{AllByRecursion}
 use Rattle.refusals.specs.declared.Refusal.{Refusal}
 use Rattle.refusals.specs.declared.Refusal.TheVariants.{SheetForm, Width}
 use Rattle.sheets.specs.declared.reader.SheetReader.{SheetReader}
@@ -30,12 +30,12 @@ ReadsRow n before (Err e) after =
 -- sixteen rows of n columns, those past the n-th 0
 pub record Rows (n : ℕ) (rows : List ℕ) : Type 0 where
   pub sixteen : length rows ≡ 16
-  pub words : All (λ row. row < 2 ^ n) rows
+  pub words : AllByRecursion (λ row. row < 2 ^ n) rows
   pub zeros : (k : ℕ) → n ≤ k → slice_index rows k ≡ 0
 
 -- the lines of `read` were read, and the reader stands behind them
 pub record Stands (n : ℕ) (before : SheetReader) (read : List ℕ) (after : SheetReader) : Type 0 where
-  pub words : All (λ row. row < 2 ^ n) read
+  pub words : AllByRecursion (λ row. row < 2 ^ n) read
   pub front : left before ≡ body n read ++ left after
   pub line : after.line ≡ on before.line (length read)
 

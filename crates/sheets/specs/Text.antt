@@ -1,6 +1,6 @@
 -- The text of a sheet, and which of its lines is the first that is not of the form.
 use Rattle.std.specs.Prelude.{◌≡◌, ℕ, zero, suc, ◌+◌, ◌/◌, ◌%◌, ◌^◌, ◌<◌, ◌⊎◌, List, [], ◌∷◌, ◌++◌, length, decimal, ◌≢◌}
-use Rattle.std.specs.List.{AllByRecursion as All}
+use Rattle.std.specs.List.{AllByRecursion}
 
 -- the digits of a row of n columns: digit j, from the left, is bit j
 abbrev pub digits : ℕ → ℕ → List ℕ
@@ -37,7 +37,7 @@ pub record BadRow (n : ℕ) (text : List ℕ) (k : ℕ) : Type 0 where
   pub read : List ℕ
   pub rest : List ℕ
   pub count : length read ≡ k
-  pub words : All (λ row. row < 2 ^ n) read
+  pub words : AllByRecursion (λ row. row < 2 ^ n) read
   pub front : text ≡ body n read ++ rest
   pub bad : ((k < n) × NoRow n rest) ⊎ ((k ≡ n) × (rest ≢ []))
 

@@ -1,6 +1,6 @@
 -- What a whole text is as a sheet: accepted with its values, or refused.
 use Rattle.std.specs.Prelude.{◌≡◌, ℕ, ◌^◌, ◌<◌, ◌≤◌, List, ◌++◌, length, take, Ok, Err, Result}
-use Rattle.std.specs.List.{AllByRecursion as All}
+use Rattle.std.specs.List.{AllByRecursion}
 use Rattle.refusals.specs.declared.Refusal.{Refusal}
 use Rattle.refusals.specs.declared.Refusal.TheVariants.{SheetForm, Width, Order}
 use Rattle.generator.specs.Judge.{LawfulWidth, LawfulOrder}
@@ -45,7 +45,7 @@ pub record FormFacts : Type 0 where
   pub one_header : (n N n' N' : ℕ) (r r' : List ℕ) → n < 1000 → N < 1000 → n' < 1000 → N' < 1000
       → header n N ++ r ≡ header n' N' ++ r' → (n ≡ n') × (N ≡ N') × (r ≡ r')
   pub one_line : (text : List ℕ) (line line' : ℕ) → FirstBadLine text line → FirstBadLine text line' → line ≡ line'
-  pub no_line : (n N line : ℕ) (rows : List ℕ) → n < 1000 → N < 1000 → length rows ≡ n → All (λ row. row < 2 ^ n) rows
+  pub no_line : (n N line : ℕ) (rows : List ℕ) → n < 1000 → N < 1000 → length rows ≡ n → AllByRecursion (λ row. row < 2 ^ n) rows
       → FirstBadLine (sheet n N rows) line → ⊥
   pub short : (n N : ℕ) (rows : List ℕ) → n ≤ 16 → N < 1000 → length rows ≡ n → length (sheet n N rows) ≤ 280
 
