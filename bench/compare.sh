@@ -5,14 +5,14 @@ set -e
 cd "$(dirname "$0")/.."
 name=$1 crate=$2
 shift 2
-rt staticlib "$crate" >/dev/null 2>&1
-kit=$(dirname "$(dirname "$(rt doc)")")
+(cd "crates/$crate" && rt lib) >/dev/null 2>&1
+kit=$(dirname "$(rt doc)")
 out=target/bench
 mkdir -p "$out"
 for compiler in "$kit/toolchain/bin/clang" gcc clang; do
     command -v "$compiler" >/dev/null || continue
     "$compiler" -O3 -c "bench/$name/loops.c" -o "$out/$name-loops.o" 2>/dev/null || continue
-    cc -O3 "bench/$name/main.c" "$out/$name-loops.o" "target/staticlib/lib$crate.a" "$kit/lib/librattle_c.a" "$@" -o "$out/$name"
+    cc -O3 "bench/$name/main.c" "$out/$name-loops.o" "crates/$crate/out/lib$crate.a" "$kit/c/libos_c.a" "$kit/c/liblibc_c.a" "$@" -o "$out/$name"
     echo "C loops by $("$compiler" --version | head -n 1) -O3"
     "$out/$name"
 done
