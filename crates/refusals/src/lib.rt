@@ -30,6 +30,7 @@ pub enum Refusal {
 
 impl Refusal {
     // The refusal's number in the table. Number and carried values together tell any two refusals apart.
+    #[tactic(auto, using(crate::proofs::Cases::told))]
     pub fn number(&self) -> u8
         ensures value { result ≡ number self.now }
         ensures told { Told }
