@@ -1,4 +1,4 @@
--- The limits of a shelf, by name. The constants of the code have the same values.
+-- The limits of a shelf by name, for contracts. src/lib.rt has them for code; nothing proves yet that they are the same.
 use Rattle.std.specs.Prelude.{ℕ}
 
 -- how many bytes a block has

@@ -25,6 +25,7 @@ fn failed_drives<R: ReadingRack>(rack: &R) -> Result<u32, Fail> {
 // No column was read twice or though it was marked, and just the asked one where it answered.
 fn few_touches(
     rt: &impl Abort,
+    width: u16,
     drives: u8,
     column: u8,
     marks: u32,
@@ -32,10 +33,13 @@ fn few_touches(
     touches: u32,
 ) -> Result<(), Fail> {
     if has(known, column) {
-        assert!(rt; touches.saturating_add(marks.count_ones()) <= u32::from(drives));
+        assert!(rt;
+            touches.saturating_add(marks.count_ones()) <= u32::from(drives),
+            "width {width}, column {column}"
+        );
         Ok(())
     } else {
-        assert_eq!(rt; touches, 1);
+        assert_eq!(rt; touches, 1, "width {width}, column {column}");
         Ok(())
     }
 }
@@ -43,14 +47,18 @@ fn few_touches(
 // More than two columns are missing: the buffer is as it was, and it was the last touch that took the third column.
 fn gave_up(
     rt: &impl Abort,
+    width: u16,
     res: Result<(), Refusal>,
     buf: &Block,
     touches: u32,
     at: &[u32],
 ) -> Result<(), Fail> {
-    assert_eq!(rt; res, Err(Refusal::TooManyMissing));
-    assert!(rt; *buf == [0xa5; 512], "the buffer changed");
-    assert!(rt; at.contains(&touches.wrapping_sub(1)), "a touch too many");
+    assert_eq!(rt; res, Err(Refusal::TooManyMissing), "width {width}");
+    assert!(rt; *buf == [0xa5; 512], "width {width}: the buffer changed");
+    assert!(rt;
+        at.contains(&touches.wrapping_sub(1)),
+        "width {width}: a touch too many"
+    );
     Ok(())
 }
 
@@ -77,14 +85,14 @@ fn falters<C: Code>(
     );
     let touches = rack.touches();
     if known.count_ones() > 2 {
-        return gave_up(rt, result, &buf, touches, at);
+        return gave_up(rt, width, result, &buf, touches, at);
     }
     assert_eq!(rt; result, Ok(()), "width {width}, column {column}");
     assert!(rt;
         buf == column_of(columns, column)?,
         "the block of width {width}, column {column}"
     );
-    few_touches(rt, drives, column, marks, known, touches)
+    few_touches(rt, width, drives, column, marks, known, touches)
 }
 
 // At most two marks, and any three touches at which a drive fails; some of them may be the same, or lie behind the last touch.

@@ -84,20 +84,29 @@ fn pull_all<R: Rack>(rack: &mut R, pulled: u32) -> Result<(), Fail> {
 // Whether the marks after the recovery of a column are right, where just the drives in `silent` do not answer.
 fn marks_are_right(
     rt: &impl Abort,
+    width: u16,
     drives: u8,
     column: u8,
     marks: u32,
     silent: u32,
     known: u32,
 ) -> Result<(), Fail> {
-    assert_eq!(rt; known & marks, marks, "a mark was dropped");
+    assert_eq!(rt;
+        known & marks,
+        marks,
+        "width {width}, column {column}: a mark was dropped"
+    );
     assert_eq!(rt;
         known & !marks & !silent,
         0,
-        "a drive that answers is marked"
+        "width {width}, column {column}: a drive that answers is marked"
     );
     if !has(marks | silent, column) {
-        assert_eq!(rt; known, marks, "others were read");
+        assert_eq!(rt;
+            known,
+            marks,
+            "width {width}, column {column}: others were read"
+        );
         return Ok(());
     }
     // it takes all the data that is left
@@ -106,7 +115,7 @@ fn marks_are_right(
     assert_eq!(rt;
         known & needed,
         needed,
-        "a drive that was read is not marked"
+        "width {width}, column {column}: a drive that was read is not marked"
     );
     Ok(())
 }
@@ -133,7 +142,7 @@ pub fn recovers<R: ReadingRack, C: Code>(
         buf == column_of(columns, column)?,
         "the block of width {width}, column {column}, marks {marks}"
     );
-    marks_are_right(rt, rack.drives(), column, marks, silent, known)
+    marks_are_right(rt, width, rack.drives(), column, marks, silent, known)
 }
 
 // Recovers every column so.
