@@ -78,12 +78,12 @@ abbrev pub Fails : ℕ → ℕ → (ℕ → ℕ) → ℕ → Type 0
 Fails n N g m = (N % m ≡ 0) × Fixes n m g
 
 -- the first number from 1 on that fails is the least divisor at which the matrix fails
-pub least_found : (n N : ℕ) (g : ℕ → ℕ) (r : Option ℕ)
-    → MatchOption r ((k : ℕ) → 1 ≤ k → k < N → Fails n N g k → ⊥) (λ m. (1 ≤ m) × (m < N) × Fails n N g m × ((k : ℕ) → 1 ≤ k → k < m → Fails n N g k → ⊥))
+pub least_found : (n N : ℕ) (g : ℕ → ℕ) (a b : ℕ) (r : Option ℕ) → a ≡ 1 → b ≡ N
+    → MatchOption r ((k : ℕ) → a ≤ k → k < b → Fails n N g k → ⊥) (λ m. (a ≤ m) × (m < b) × Fails n N g m × ((k : ℕ) → a ≤ k → k < m → Fails n N g k → ⊥))
     → MatchOption r ((k : ℕ) → FailsAt n N g k → ⊥) (λ m. FailsAt n N g m × ((k : ℕ) → k < m → FailsAt n N g k → ⊥))
-least_found n N g None none = λ k f. none k (omega (arith, f.0)) f.1 (f.2, f.3)
-least_found n N g (Some m) found =
-    ((omega (arith, found.0), found.1, found.2.0, found.2.1), λ k lt f. found.3 k (omega (arith, f.0)) lt (f.2, f.3))
+least_found n N g a b None one end none = λ k f. none k (omega (arith, one, f.0)) (omega (arith, end, f.1)) (f.2, f.3)
+least_found n N g a b (Some m) one end found =
+    ((omega (arith, one, found.0), omega (arith, end, found.1), found.2.0, found.2.1), λ k lt f. found.3 k (omega (arith, one, f.0)) lt (f.2, f.3))
 
 -- no failing divisor: zero is the only word that stays
 pub none_fails : (n N : ℕ) (g : ℕ → ℕ) → ((k : ℕ) → FailsAt n N g k → ⊥) → (m x : ℕ) → (0 < m) × (m < N) × (N % m ≡ 0) × (x < 2 ^ n) × (power g m x ≡ x) → x ≡ 0

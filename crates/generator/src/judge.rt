@@ -20,7 +20,7 @@ struct Square {
 
 impl Square {
     // None where the rows are not `width` rows of `width` bits.
-    fn new(width: u16, rows: &[u16]) -> Option<Square>
+    fn from_rows(width: u16, rows: &[u16]) -> Option<Square>
         requires { width ≤ 16 }
         ensures { MatchOption result (Shaped width rows.now → ⊥) (λ s. Shaped width rows.now × (s.width ≡ width) × (s.rows ≡ rows.now ++ replicate (16 - width) 0)) }
     {
@@ -71,9 +71,7 @@ fn examine(width: u16, order: u16, rows: &[u16]) -> Result<Generator, Refusal>
     if !(2..=255).contains(&order) {
         return Err(Refusal::Order);
     }
-    let Some(matrix) = Square::new(width, rows) else {
-        return Err(Refusal::Rows);
-    };
+    let matrix = Square::from_rows(width, rows).ok_or(Refusal::Rows)?;
     if !matrix.returns_after(order) {
         return Err(Refusal::NotCyclic);
     }

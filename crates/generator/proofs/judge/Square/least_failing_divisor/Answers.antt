@@ -9,5 +9,5 @@ returns c =
     let n : ℕ = c.args.self.now.width in
     let N : ℕ = c.args.order in
     let g : ℕ → ℕ = image c.args.self.now.rows in
-    least_found n N g c.find.result
+    least_found n N g _ _ c.find.result (search rules) (search rules)
     (first_from_Range _ _ _ c.find.result (Fails n N g) (λ m. Fails n N g m → ⊥) c.find.ensures.ran (λ x q k. search (rules, tests)) (λ x q k. search (rules, tests)))

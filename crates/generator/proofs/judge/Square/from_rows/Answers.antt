@@ -1,7 +1,7 @@
 use Rattle.std.proofs.Common.{ℕ, List, refl, rules}
 use Rattle.generator.specs.Matrix.{Shaped}
 use Rattle.generator.proofs.Shapes.{shaped, padded, padded_height, padded_breadth}
-use Rattle.generator.proofs.judge.Square.new.Goals as goal
+use Rattle.generator.proofs.judge.Square.from_rows.Goals as goal
 
 pub invariant_of-result : goal.invariant_of-result
 invariant_of-result c =
