@@ -48,10 +48,6 @@ image_narrow (suc n) (r ∷ rs) h x =
 pub narrow_linear : (n : ℕ) (rows : List ℕ) → ((k : ℕ) → n ≤ k → get_or rows k 0 ≡ 0) → Linear n (image rows)
 narrow_linear n rows h = record { words = λ x w. image_narrow n rows h x; sums = λ x y wx wy. image_sum rows x y }
 
-pub shaped : (n : ℕ) (rows : List ℕ) → length rows ≡ n → ((k : ℕ) → k < length rows → get_or rows k 0 < 2 ^ n) → Shaped n rows
-shaped n rows count low =
-    (count, λ k. ⊎_elim (λ lt. low k lt) (λ ge. omega (arith, get_or_past rows k 0 ge, pow_pos n)) (cases_lt k (length rows)))
-
 pub shaped_linear : (n : ℕ) (rows : List ℕ) → Shaped n rows → Linear n (image rows)
 shaped_linear n rows s = subst (λ m. Linear m (image rows)) s.0 (image_linear rows)
 
@@ -70,9 +66,12 @@ pub image_padded : (rows : List ℕ) (m : ℕ) → image (rows ++ replicate m 0)
 image_padded rows m = λ i x. image_same (rows ++ replicate m 0) rows (row_padded rows m) x i
 
 -- rows copied over the first of sixteen zeros
-pub padded : (n height : ℕ) (copy rows : List ℕ) → copy ≡ rows → height ≡ n → copy ++ drop height (replicate 16 0) ≡ rows ++ replicate (16 - n) 0
-padded n height copy rows same is =
-    ap (λ l. l ++ drop height (replicate 16 0)) same ∙ ap (λ z. rows ++ z) (drop-replicate height 16 0 ∙ ap (λ h. replicate (16 - h) 0) is)
+pub copied : (n height : ℕ) (copy rows : List ℕ) → length rows ≡ n → ((k : ℕ) → k < length rows → get_or rows k 0 < 2 ^ n) → copy ≡ rows → height ≡ n
+    → Shaped n rows × (copy ++ drop height (replicate 16 0) ≡ rows ++ replicate (16 - n) 0)
+copied n height copy rows count low same is = (
+  (count, λ k. ⊎_elim (λ lt. low k lt) (λ ge. omega (arith, get_or_past rows k 0 ge, pow_pos n)) (cases_lt k (length rows))),
+  ap (λ l. l ++ drop height (replicate 16 0)) same ∙ ap (λ z. rows ++ z) (drop-replicate height 16 0 ∙ ap (λ h. replicate (16 - h) 0) is),
+)
 
 pub padded_height : (n : ℕ) (rows matrix : List ℕ) → Shaped n rows → matrix ≡ rows ++ replicate (16 - n) 0 → (k : ℕ) → n ≤ k → get_or matrix k 0 ≡ 0
 padded_height n rows matrix s is k le =

@@ -86,6 +86,7 @@ fn examine(width: u16, order: u16, rows: &[u16]) -> Result<Generator, Refusal>
 }
 
 // Judges a matrix. The record is replaced whole where it is accepted, and stays as it was where it is refused.
+#[tactic(auto, using(crate::proofs::Verdicts::exactly))]
 pub fn judge(width: u16, order: u16, rows: &[u16], generator: &mut Generator) -> Result<(), Refusal>
     ensures verdict { Verdict width order rows.now result }
     ensures replaced { Replaced width order rows.now result generator.old generator.new }
