@@ -22,7 +22,8 @@ impl Square {
     // None where the rows are not `width` rows of `width` bits.
     fn from_rows(width: u16, rows: &[u16]) -> Option<Square>
         requires { width ≤ 16 }
-        ensures { MatchOption result (Shaped width rows.now → ⊥) (λ s. Shaped width rows.now × (s.width ≡ width) × (s.rows ≡ rows.now ++ replicate (16 - width) 0)) }
+        ensures { MatchOption result (Shaped width rows.now → ⊥)
+            (λ s. Shaped width rows.now × (s.width ≡ width) × (s.rows ≡ rows.now ++ replicate (16 - width) 0)) }
     {
         let height = usize::from(width);
         let limit = 1u32 << width;
@@ -55,7 +56,8 @@ impl Square {
 
     // The least proper divisor of the order whose power leaves a nonzero word as it is.
     fn least_failing_divisor(&self, order: u16) -> Option<u16>
-        ensures { let fails = FailsAt self.now.width order (image_of self.now.rows) in MatchOption result ((k : ℕ) → fails k → ⊥) (λ m. fails m × ((k : ℕ) → k < m → fails k → ⊥)) }
+        ensures { let fails = FailsAt self.now.width order (image_of self.now.rows) in
+            MatchOption result ((k : ℕ) → fails k → ⊥) (λ m. fails m × ((k : ℕ) → k < m → fails k → ⊥)) }
     {
         (1..order).find(|m| order % m == 0 && self.fixes_a_word(*m))
     }
