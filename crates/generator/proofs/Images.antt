@@ -1,5 +1,5 @@
 -- The image is linear, and the image of a product is the image of the image.
-use Rattle.std.proofs.Common.{◌≡◌, ℕ, zero, suc, ◌+◌, ◌*◌, ◌/◌, ◌%◌, ◌^◌, ◌<◌, ◌≤◌, min, fold, reverse, List, [], ◌∷◌, length, get_or, drop, sym, refl, ap, ◌∙◌, one-mul, pow-suc, zero-mul, subst, arith}
+use Rattle.std.proofs.Common.{◌≡◌, ℕ, zero, suc, ◌+◌, ◌-◌, ◌*◌, ◌/◌, ◌%◌, ◌^◌, ◌<◌, ◌≤◌, min, fold, reverse, List, [], ◌∷◌, length, get_or, drop, sym, refl, ap, ◌∙◌, one-mul, pow-suc, zero-mul, subst, arith}
 use lib.Arith.{digits_div, digits_mod}
 use lib.Bits.{bit_and, bit_or, or_shifted, xor_block, and_step, and_comm, and_zero_l, and_zero_r}
 use mathlib.Core.List.{reverse-cons}
@@ -81,6 +81,12 @@ pub image_folded : (rows : List ℕ) (x : ℕ) → length rows ≡ 16 → fold (
 image_folded rows x long =
     let below : image rows x < 2 ^ 16 = subst (λ n. image rows x < 2 ^ n) long (image_below rows x) in
     omega (arith, bits_folded rows x, below)
+
+-- one row more, from below
+pub image_step : (rows : List ℕ) (i x : ℕ) → 0 < i → i ≤ length rows → image (drop (i - 1) rows) x ≡ image (drop i rows) x * 2 + parity (bit_and (get_or rows (i - 1) 0) x)
+image_step rows i x pos le =
+    let back : i - 1 + 1 ≡ i = omega arith in
+    at_drop_more (λ l. image l x) rows (i - 1) 0 (omega arith) ∙ ap (λ k. image (drop k rows) x * 2 + parity (bit_and (get_or rows (i - 1) 0) x)) back
 
 -- two matrices whose rows count alike, each in its own word
 pub image_by_rows : (rs qs : List ℕ) (x y : ℕ) → length rs ≡ length qs

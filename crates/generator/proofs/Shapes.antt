@@ -37,6 +37,9 @@ image_same (m ∷ ms) [] h x =
 image_same (m ∷ ms) (r ∷ rs) h x =
     ap (λ w. w * 2 + parity (bit_and m x)) (image_same ms rs (λ k. h (suc k)) x) ∙ ap (λ w. image rs x * 2 + parity (bit_and w x)) (h 0)
 
+pub one_map : (matrix rows : List ℕ) → ((k : ℕ) → get_or matrix k 0 ≡ get_or rows k 0) → image matrix ≡ image rows
+one_map matrix rows h = λ i x. image_same matrix rows h x i
+
 -- with no row at n or above, every image is a word of n bits
 pub image_narrow : (n : ℕ) (rows : List ℕ) → ((k : ℕ) → n ≤ k → get_or rows k 0 ≡ 0) → (x : ℕ) → image rows x < 2 ^ n
 image_narrow n [] h x = pow_pos n
@@ -63,7 +66,7 @@ row_padded (r ∷ rs) m zero = refl
 row_padded (r ∷ rs) m (suc k) = row_padded rs m k
 
 pub image_padded : (rows : List ℕ) (m : ℕ) → image (rows ++ replicate m 0) ≡ image rows
-image_padded rows m = λ i x. image_same (rows ++ replicate m 0) rows (row_padded rows m) x i
+image_padded rows m = one_map (rows ++ replicate m 0) rows (row_padded rows m)
 
 -- rows copied over the first of sixteen zeros
 pub copied : (n height : ℕ) (copy rows : List ℕ) → length rows ≡ n → ((k : ℕ) → k < length rows → get_or rows k 0 < 2 ^ n) → copy ≡ rows → height ≡ n

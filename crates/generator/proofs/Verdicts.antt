@@ -46,6 +46,10 @@ pub often : (n N : ℕ) (matrix p : List ℕ) → n ≤ 16 → ((x : ℕ) → x 
     → Returns n 1 (image p) → Returns n N (image matrix)
 often n N matrix p le is same x w = sym (is x (widen n x le w)) ∙ same x w
 
+pub fixed_once : (n m : ℕ) (matrix p : List ℕ) → n ≤ 16 → ((x : ℕ) → x < 2 ^ 16 → image p x ≡ power (image matrix) m x)
+    → Fixes n m (image matrix) → Fixes n 1 (image p)
+fixed_once n m matrix p le is f = (f.0, f.1, f.2, is f.0 (widen n f.0 le f.2) ∙ f.3)
+
 unit : (i n : ℕ) → n ≤ 16 → i < n → 1 * 2 ^ i % 65536 ≡ 2 ^ i
 unit i n le lt = one_shl i 16 (omega (arith, le, lt))
 
@@ -70,7 +74,9 @@ fixes_tested n m matrix p le is r e =
           let found = some_from_any test 1 (2 ^ n - 1) (sym e ∙ yes) in
           let word : found.0 < 2 ^ n = omega (arith, found.2, pow_pos n) in
           (found.0, omega (arith, found.1), word, sym (is found.0 (widen n found.0 le word)) ∙ eqb-true _ _ found.3),
-      λ f. e ∙ any_from_some test 1 (2 ^ n - 1) f.0 (omega (arith, f.1)) (omega (arith, f.2)) (eq-eqb _ _ (is f.0 (widen n f.0 le f.2) ∙ f.3)),
+      λ f.
+          let fixed = fixed_once n m matrix p le is f in
+          e ∙ any_from_some test 1 (2 ^ n - 1) fixed.0 (omega (arith, fixed.1)) (omega (arith, fixed.2)) (eq-eqb _ _ fixed.3),
     )
 
 -- m divides the order, and the power of m leaves a nonzero word as it is
