@@ -1,8 +1,10 @@
 -- The image is linear, and the image of a product is the image of the image.
-use Rattle.std.proofs.Common.{◌≡◌, ℕ, zero, suc, ◌+◌, ◌-◌, ◌*◌, ◌/◌, ◌%◌, ◌^◌, ◌<◌, ◌≤◌, min, List, [], ◌∷◌, length, get_or, drop, sym, refl, ap, ◌∙◌, one-mul, pow-suc, zero-mul, arith}
+use Rattle.std.proofs.Common.{◌≡◌, ℕ, zero, suc, ◌+◌, ◌-◌, ◌*◌, ◌/◌, ◌%◌, ◌^◌, ◌<◌, ◌≤◌, min, fold, reverse, List, [], ◌∷◌, length, get_or, drop, sym, refl, ap, ◌∙◌, one-mul, pow-suc, zero-mul, subst, arith}
 use lib.Arith.{digits_div, digits_mod}
-use lib.Bits.{bit_and, xor_block, and_step, and_comm, and_zero_l, and_zero_r}
+use lib.Bits.{bit_and, bit_or, or_shifted, xor_block, and_step, and_comm, and_zero_l, and_zero_r}
+use mathlib.Core.List.{reverse-cons}
 use Rattle.std.proofs.lemmas.List.{at_drop_more, at_drop_all}
+use Rattle.std.proofs.lemmas.List.Sums.{fold-append}
 use Rattle.std.proofs.lemmas.Nat.{shr-shr}
 use Rattle.cyclic.specs.Maps.{◌⊕◌, Linear}
 use Rattle.generator.specs.Matrix.{parity, image}
@@ -59,6 +61,26 @@ combined_parity row (b ∷ bs) x =
     let right : parity (bit_and row (i * 2 + p)) ≡ (parity (bit_and (row / 2) i) + min u p) % 2 =
     ap parity halves ∙ parity_step (bit_and (row / 2) i) (min u p) (omega arith) in
     omega (arith, left, right)
+
+-- the word so far, moved up by one bit, and the row's bit below it: what `image` in matrix.rt does at each row, from the last one down
+abbrev pub next_bit : ℕ → ℕ → ℕ → ℕ
+next_bit x bits row = bit_or (bits * 2 % 65536) (parity (bit_and row x))
+
+low_bit : (i p : ℕ) → p < 2 → bit_or (i % 65536 * 2 % 65536) p ≡ (i * 2 + p) % 65536
+low_bit i p h =
+    let even : i % 65536 * 2 % 65536 ≡ i % 32768 * 2 = omega arith in
+    ap (λ w. bit_or w p) even ∙ or_shifted (i % 32768) 1 p h ∙ omega (arith, h)
+
+bits_folded : (rows : List ℕ) (x : ℕ) → fold (next_bit x) 0 (reverse rows) ≡ image rows x % 65536
+bits_folded [] x = refl
+bits_folded (row ∷ rows) x =
+    ap (fold (next_bit x) 0) (reverse-cons row rows) ∙ fold-append (next_bit x) 0 (reverse rows) (row ∷ [])
+    ∙ ap (λ w. next_bit x w row) (bits_folded rows x) ∙ low_bit (image rows x) (parity (bit_and row x)) (parity_below (bit_and row x))
+
+pub image_folded : (rows : List ℕ) (x : ℕ) → length rows ≡ 16 → fold (next_bit x) 0 (reverse rows) ≡ image rows x
+image_folded rows x long =
+    let below : image rows x < 2 ^ 16 = subst (λ n. image rows x < 2 ^ n) long (image_below rows x) in
+    omega (arith, bits_folded rows x, below)
 
 -- one row more, from below
 pub image_step : (rows : List ℕ) (i x : ℕ) → 0 < i → i ≤ length rows → image (drop (i - 1) rows) x ≡ image (drop i rows) x * 2 + parity (bit_and (get_or rows (i - 1) 0) x)

@@ -3,3 +3,4 @@ pub mod Images
 pub mod Decide
 pub mod Shapes
 pub mod Verdicts
+pub mod Ranges

@@ -1,7 +1,7 @@
 -- The shape of a matrix: which rows and bits it has, and what that says of its images.
 use Rattle.std.proofs.Common.{◌≡◌, ℕ, zero, suc, ◌+◌, ◌-◌, ◌*◌, ◌^◌, ◌<◌, ◌≤◌, T, eqb, ltb, List, [], ◌∷◌, ◌++◌, length, get_or, drop, replicate, sym, refl, ap, ◌∙◌, subst, ⊎_elim, pow-suc, arith, eqb→eq, ltb→lt, pow_pos}
 use lib.Bits.{bit_and, and_zero_l}
-use Rattle.std.proofs.lemmas.List.{get_or_past, get_or-drop, ext_get_or, length-append, length-replicate, get_or_append_left, get_or-append_right, get_or-replicate}
+use Rattle.std.proofs.lemmas.List.{get_or_past, get_or-drop, drop-replicate}
 use Rattle.std.proofs.lemmas.Bool.{cases_lt}
 use Rattle.cyclic.specs.Maps.{Linear}
 use Rattle.cyclic.proofs.Units.{all_below, each_below}
@@ -37,6 +37,9 @@ image_same (m ∷ ms) [] h x =
 image_same (m ∷ ms) (r ∷ rs) h x =
     ap (λ w. w * 2 + parity (bit_and m x)) (image_same ms rs (λ k. h (suc k)) x) ∙ ap (λ w. image rs x * 2 + parity (bit_and w x)) (h 0)
 
+pub one_map : (matrix rows : List ℕ) → ((k : ℕ) → get_or matrix k 0 ≡ get_or rows k 0) → image matrix ≡ image rows
+one_map matrix rows h = λ i x. image_same matrix rows h x i
+
 -- with no row at n or above, every image is a word of n bits
 pub image_narrow : (n : ℕ) (rows : List ℕ) → ((k : ℕ) → n ≤ k → get_or rows k 0 ≡ 0) → (x : ℕ) → image rows x < 2 ^ n
 image_narrow n [] h x = pow_pos n
@@ -51,14 +54,32 @@ narrow_linear n rows h = record { words = λ x w. image_narrow n rows h x; sums 
 pub shaped_linear : (n : ℕ) (rows : List ℕ) → Shaped n rows → Linear n (image rows)
 shaped_linear n rows s = subst (λ m. Linear m (image rows)) s.0 (image_linear rows)
 
--- sixteen rows that are those of a list, and 0 past its end, are that list and zeros
-pub padded : (n : ℕ) (matrix rows : List ℕ) → length matrix ≡ 16 → length rows ≡ n → n ≤ 16 → ((k : ℕ) → get_or matrix k 0 ≡ get_or rows k 0)
-    → matrix ≡ rows ++ replicate (16 - n) 0
-padded n matrix rows long count le same =
-    ext_get_or 0 matrix (rows ++ replicate (16 - n) 0)
-    (long ∙ sym (length-append rows (replicate (16 - n) 0) ∙ ap (λ v. length rows + v) (length-replicate (16 - n) 0) ∙ omega arith))
-    (λ k lt. ⊎_elim
-    (λ below. same k ∙ sym (get_or_append_left rows (replicate (16 - n) 0) 0 k below))
-    (λ above. same k ∙ get_or_past rows k 0 above
-    ∙ sym (get_or-append_right rows (replicate (16 - n) 0) n k 0 count (omega arith) ∙ get_or-replicate (16 - n) (k - n) 0 0 (omega arith)))
-    (cases_lt k (length rows)))
+-- rows and zeros up to sixteen: the same rows, missing ones taken as 0
+zero_at : (m k : ℕ) → get_or {A = ℕ} (replicate m 0) k 0 ≡ 0
+zero_at zero k = refl
+zero_at (suc m) zero = refl
+zero_at (suc m) (suc k) = zero_at m k
+
+pub row_padded : (rows : List ℕ) (m k : ℕ) → get_or (rows ++ replicate m 0) k 0 ≡ get_or rows k 0
+row_padded [] m k = zero_at m k
+row_padded (r ∷ rs) m zero = refl
+row_padded (r ∷ rs) m (suc k) = row_padded rs m k
+
+pub image_padded : (rows : List ℕ) (m : ℕ) → image (rows ++ replicate m 0) ≡ image rows
+image_padded rows m = one_map (rows ++ replicate m 0) rows (row_padded rows m)
+
+-- rows copied over the first of sixteen zeros
+pub copied : (n height : ℕ) (copy rows : List ℕ) → length rows ≡ n → ((k : ℕ) → k < length rows → get_or rows k 0 < 2 ^ n) → copy ≡ rows → height ≡ n
+    → Shaped n rows × (copy ++ drop height (replicate 16 0) ≡ rows ++ replicate (16 - n) 0)
+copied n height copy rows count low same is = (
+  (count, λ k. ⊎_elim (λ lt. low k lt) (λ ge. omega (arith, get_or_past rows k 0 ge, pow_pos n)) (cases_lt k (length rows))),
+  ap (λ l. l ++ drop height (replicate 16 0)) same ∙ ap (λ z. rows ++ z) (drop-replicate height 16 0 ∙ ap (λ h. replicate (16 - h) 0) is),
+)
+
+pub padded_height : (n : ℕ) (rows matrix : List ℕ) → Shaped n rows → matrix ≡ rows ++ replicate (16 - n) 0 → (k : ℕ) → n ≤ k → get_or matrix k 0 ≡ 0
+padded_height n rows matrix s is k le =
+    ap (λ l. get_or l k 0) is ∙ row_padded rows (16 - n) k ∙ get_or_past rows k 0 (omega (arith, s.0))
+
+pub padded_breadth : (n : ℕ) (rows matrix : List ℕ) → Shaped n rows → matrix ≡ rows ++ replicate (16 - n) 0 → (k : ℕ) → get_or matrix k 0 < 2 ^ n
+padded_breadth n rows matrix s is k =
+    subst (λ y. y < 2 ^ n) (sym (ap (λ l. get_or l k 0) is ∙ row_padded rows (16 - n) k)) (s.1 k)

@@ -3,31 +3,32 @@ ghost use Rattle.std.specs.Prelude.{◌≡◌, ℕ, ◌^◌, ◌<◌, bit_and};
 ghost use Rattle.cyclic.specs.Maps.{power as power_of};
 ghost use Rattle.generator.specs.Matrix.{parity as parity_of, image as image_of};
 
+use std::array;
+
 pub type Matrix = [u16; 16];
 
-// Row i counts bit i alone.
-const IDENTITY: Matrix = [
-    0x0001, 0x0002, 0x0004, 0x0008, 0x0010, 0x0020, 0x0040, 0x0080, //
-    0x0100, 0x0200, 0x0400, 0x0800, 0x1000, 0x2000, 0x4000, 0x8000,
-];
+// 1 where an odd number of bits is set.
+fn parity(word: u16) -> u16
+    ensures { result ≡ parity_of word }
+{
+    (word.count_ones() % 2) as u16
+}
 
 // The image of a word.
 pub fn image(matrix: Matrix, word: u16) -> u16
     ensures { result ≡ image_of matrix word }
 {
-    let mut bits = 0;
-    for i in (0..16).rev() {
-        let parity = (matrix[i] & word).count_ones() % 2;
-        bits = bits * 2 + parity as u16;
-    }
-    bits
+    matrix
+        .iter()
+        .rev()
+        .fold(0, |bits, row| (bits << 1) | parity(row & word))
 }
 
-// The matrix that leaves every word as it is.
+// The matrix that leaves every word as it is: row i counts bit i alone.
 pub fn identity() -> Matrix
     ensures { (x : ℕ) → x < 2 ^ 16 → image_of result x ≡ x }
 {
-    IDENTITY
+    array::from_fn(|i| 1 << i)
 }
 
 // The sum of the rows of `matrix` that the bits of `row` pick.
@@ -35,9 +36,9 @@ fn combine(row: u16, matrix: Matrix) -> u16
     ensures { (x : ℕ) → parity_of (bit_and result x) ≡ parity_of (bit_and row (image_of matrix x)) }
 {
     let mut sum = 0;
-    for i in 0..16 {
+    for (i, picked) in matrix.iter().enumerate() {
         if (row >> i) % 2 == 1 {
-            sum ^= matrix[i];
+            sum ^= picked;
         }
     }
     sum
@@ -47,11 +48,7 @@ fn combine(row: u16, matrix: Matrix) -> u16
 pub fn product(a: Matrix, b: Matrix) -> Matrix
     ensures { (x : ℕ) → image_of result x ≡ image_of a (image_of b x) }
 {
-    let mut rows = [0; 16];
-    for i in 0..16 {
-        rows[i] = combine(a[i], b);
-    }
-    rows
+    a.map(|row| combine(row, b))
 }
 
 // The matrix applied `exponent` times.
@@ -60,6 +57,7 @@ pub fn power(matrix: Matrix, exponent: u16) -> Matrix
 {
     let mut rows = identity();
     for _ in 0..exponent {
+        // not `rows = product(..)`, which gets no proof: a call's result laid in an array
         let next = product(matrix, rows);
         rows = next;
     }

@@ -58,24 +58,20 @@ impl fmt::Display for Refusal {
     ghost output = { λ x. Some (line x) };
 
     fn fmt<W: fmt::Write>(&self, f: &mut fmt::Formatter<W>) -> fmt::Result {
-        let number = self.number();
+        write!(f, "refused {} at ", self.number())?;
         match self {
-            Refusal::SheetForm { line } => write!(f, "refused {number} at {line}"),
-            Refusal::FixedWord { divisor } => write!(f, "refused {number} at {divisor}"),
-            Refusal::NoDrive { drive } => write!(f, "refused {number} at {drive}"),
-            Refusal::NoBlock { block } => write!(f, "refused {number} at {block}"),
-            Refusal::NotLive { drive, block } => write!(f, "refused {number} at {drive} {block}"),
-            Refusal::DriveLive { drive } => write!(f, "refused {number} at {drive}"),
+            Refusal::SheetForm { line } => write!(f, "{line}"),
+            Refusal::FixedWord { divisor } => write!(f, "{divisor}"),
+            Refusal::NoDrive { drive } | Refusal::DriveLive { drive } => write!(f, "{drive}"),
+            Refusal::NoBlock { block } => write!(f, "{block}"),
+            Refusal::NotLive { drive, block } => write!(f, "{drive} {block}"),
             Refusal::Width
             | Refusal::Order
             | Refusal::Rows
             | Refusal::NotCyclic
             | Refusal::BufferSize
             | Refusal::DoesNotFit
-            | Refusal::TooManyMissing => {
-                let none = 0u8;
-                write!(f, "refused {number} at {none}")
-            }
+            | Refusal::TooManyMissing => write!(f, "{}", 0u8),
         }
     }
 }
