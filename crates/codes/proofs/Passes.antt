@@ -12,27 +12,6 @@ pub record BytesDone (R : ℕ → ℕ → Type 0) (before after : List ℕ) (j :
   pub done : (k : ℕ) → k < j → R (get_or before k 0) (get_or after k 0)
   pub rest : (k : ℕ) → j ≤ k → get_or after k 0 ≡ get_or before k 0
 
-pub bytes_more : (R : ℕ → ℕ → Type 0) (before after : List ℕ) (j r : ℕ) → j < length before → BytesDone R before after j
-    → r < 256 → R (get_or after j 0) r → BytesDone R before (set after j r) (j + 1)
-bytes_more R before after j r lt so_far fits image =
-    record {
-      long = length-set after j r ∙ so_far.long;
-      bytes = λ k.
-          ⊎_elim (λ e. subst (λ i. get_or (set after j r) i 0 < 256) (sym e) (subst (λ b. b < 256) (sym here) fits))
-          (λ ne. subst (λ b. b < 256) (sym (get_or-set_other after j k r 0 ne)) (so_far.bytes k)) (cases_eq k j);
-      done = λ k below.
-          ⊎_elim
-          (λ e.
-          subst (λ i. R (get_or before i 0) (get_or (set after j r) i 0)) (sym e)
-          (subst (R (get_or before j 0)) (sym here) (subst (λ b. R b r) (so_far.rest j (omega arith)) image)))
-          (λ ne. subst (R (get_or before k 0)) (sym (get_or-set_other after j k r 0 ne)) (so_far.done k (omega arith)))
-          (cases_eq k j);
-      rest = λ k above. let ne : k ≢ j = λ e. omega arith in get_or-set_other after j k r 0 ne ∙ so_far.rest k (omega arith);
-    }
-  where
-    here : get_or (set after j r) j 0 ≡ r
-    here = get_or-set_same after j r 0 (omega (arith, so_far.long))
-
 -- each of the 512 bytes has its words multiplied
 pub bytes_all : (n : ℕ) (g : ℕ → ℕ) (before after : List ℕ) → length before ≡ 512 → length after ≡ 512 → (n ≡ 16 → ⊥)
     → ((k : ℕ) → k < 512 → MultipliedByte n g (get_or before k 0) (get_or after k 0)) → Multiplied n g before after
@@ -66,9 +45,6 @@ pub record WordsDone (R : ℕ → ℕ → Type 0) (before after : List ℕ) (i :
   pub bytes : (k : ℕ) → get_or after k 0 < 256
   pub done : (k : ℕ) → k < i → R (word 16 before k) (word 16 after k)
   pub rest : (k : ℕ) → 2 * i ≤ k → get_or after k 0 ≡ get_or before k 0
-
-pub words_none : (R : ℕ → ℕ → Type 0) (block : List ℕ) → ((k : ℕ) → get_or block k 0 < 256) → WordsDone R block block 0
-words_none R block bytes = record { long = refl; bytes = bytes; done = λ k lt. absurd (omega arith); rest = λ k le. refl }
 
 -- a word that is read from its two bytes
 pub word_read : (i : ℕ) (block : List ℕ) → ((k : ℕ) → get_or block k 0 < 256) → get_or block (2 * i) 0 + get_or block (2 * i + 1) 0 * 256 ≡ word 16 block i
