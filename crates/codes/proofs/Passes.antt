@@ -5,44 +5,27 @@ use Rattle.std.proofs.lemmas.Bool.{cases_eq}
 use Rattle.codes.specs.Blocks.{word, FillsByte, Multiplied, MultipliedByte}
 use Rattle.codes.proofs.Words.{in_byte, word_in_byte, word_16}
 
--- the bytes below j are done, and the others as they were
-pub record BytesDone (n : ℕ) (g : ℕ → ℕ) (before after : List ℕ) (j : ℕ) : Type 0 where
+-- the bytes below j are done, each by R, and the others as they were
+pub record BytesDone (R : ℕ → ℕ → Type 0) (before after : List ℕ) (j : ℕ) : Type 0 where
   pub long : length after ≡ length before
-  pub done : (k : ℕ) → k < j → MultipliedByte n g (get_or before k 0) (get_or after k 0)
+  pub bytes : (k : ℕ) → get_or after k 0 < 256
+  pub done : (k : ℕ) → k < j → R (get_or before k 0) (get_or after k 0)
   pub rest : (k : ℕ) → j ≤ k → get_or after k 0 ≡ get_or before k 0
 
-pub bytes_none : (n : ℕ) (g : ℕ → ℕ) (block : List ℕ) → BytesDone n g block block 0
-bytes_none n g block = record { long = refl; done = λ k lt. absurd (omega arith); rest = λ k le. refl }
-
-pub bytes_more : (n : ℕ) (g : ℕ → ℕ) (before after : List ℕ) (j r : ℕ) → j < length before → BytesDone n g before after j
-    → MultipliedByte n g (get_or after j 0) r → BytesDone n g before (set after j r) (j + 1)
-bytes_more n g before after j r lt so_far image =
-    record {
-      long = length-set after j r ∙ so_far.long;
-      done = λ k below.
-          ⊎_elim
-          (λ e.
-          subst (λ i. MultipliedByte n g (get_or before i 0) (get_or (set after j r) i 0)) (sym e)
-          (subst (λ b. MultipliedByte n g (get_or before j 0) b) (sym (get_or-set_same after j r 0 (omega (arith, so_far.long))))
-          (subst (λ b. MultipliedByte n g b r) (so_far.rest j (omega arith)) image)))
-          (λ ne. subst (λ b. MultipliedByte n g (get_or before k 0) b) (sym (get_or-set_other after j k r 0 ne)) (so_far.done k (omega arith)))
-          (cases_eq k j);
-      rest = λ k above. let ne : k ≢ j = λ e. omega arith in get_or-set_other after j k r 0 ne ∙ so_far.rest k (omega arith);
-    }
-
-pub bytes_all : (n : ℕ) (g : ℕ → ℕ) (before after : List ℕ) → length before ≡ 512 → (n ≡ 16 → ⊥)
-    → BytesDone n g before after 512 → Multiplied n g before after
-bytes_all n g before after lb not_16 all =
+-- each of the 512 bytes has its words multiplied
+pub bytes_all : (n : ℕ) (g : ℕ → ℕ) (before after : List ℕ) → length before ≡ 512 → length after ≡ 512 → (n ≡ 16 → ⊥)
+    → ((k : ℕ) → k < 512 → MultipliedByte n g (get_or before k 0) (get_or after k 0)) → Multiplied n g before after
+bytes_all n g before after lb la not_16 all =
     record {
       words = λ fills i inside. ⊎_elim (λ small. words small i inside) (λ e. absurd (not_16 e)) fills;
       same = λ no_words.
-          sym (ext_get_or 0 before after (sym all.long) (λ k lt. sym ((all.done k (omega arith)).same (λ fills. no_words (inl fills)))));
+          sym (ext_get_or 0 before after (lb ∙ sym la) (λ k lt. sym ((all k (omega (arith, lb))).same (λ fills. no_words (inl fills)))));
     }
   where
     words : FillsByte n → (i : ℕ) → n * i < 4096 → word n after i ≡ g (word n before i)
     words fills i inside =
         word_in_byte n i after fills
-        ∙ (all.done (n * i / 8) (omega arith)).words fills (n * i % 8) (in_byte n i fills).1 (omega arith)
+        ∙ (all (n * i / 8) (omega arith)).words fills (n * i % 8) (in_byte n i fills).1 (omega arith)
         ∙ ap g (sym (word_in_byte n i before fills))
 
 -- the image of a byte that is one word
@@ -56,30 +39,22 @@ whole_byte g b r lb lr e =
       same = λ no_words. absurd (no_words (inr (inr refl)));
     }
 
--- the words of 16 bits below i are done, and the bytes of the others as they were
-pub record PairsDone (g : ℕ → ℕ) (before after : List ℕ) (i : ℕ) : Type 0 where
+-- the words of 16 bits below i are done, each by R, and the bytes of the others as they were
+pub record WordsDone (R : ℕ → ℕ → Type 0) (before after : List ℕ) (i : ℕ) : Type 0 where
   pub long : length after ≡ length before
-  pub done : (k : ℕ) → k < i → word 16 after k ≡ g (word 16 before k)
+  pub bytes : (k : ℕ) → get_or after k 0 < 256
+  pub done : (k : ℕ) → k < i → R (word 16 before k) (word 16 after k)
   pub rest : (k : ℕ) → 2 * i ≤ k → get_or after k 0 ≡ get_or before k 0
 
-pub pairs_none : (g : ℕ → ℕ) (block : List ℕ) → PairsDone g block block 0
-pairs_none g block = record { long = refl; done = λ k lt. absurd (omega arith); rest = λ k le. refl }
+-- a word that is read from its two bytes
+pub word_read : (i : ℕ) (block : List ℕ) → ((k : ℕ) → get_or block k 0 < 256) → get_or block (2 * i) 0 + get_or block (2 * i + 1) 0 * 256 ≡ word 16 block i
+word_read i block bytes = halves (get_or block (2 * i) 0) (get_or block (2 * i + 1) 0) (bytes (2 * i)) (bytes (2 * i + 1)) ∙ sym (word_16 i block)
+  where
+    halves : (a b : ℕ) → a < 256 → b < 256 → a + b * 256 ≡ b % 256 * 256 + a % 256
+    halves a b la lb = omega arith
 
--- a word of two bytes
-pub halves : (a b : ℕ) → a < 256 → b < 256 → a + b * 256 ≡ b % 256 * 256 + a % 256
-halves a b la lb = omega arith
-
--- the word that is read from a pair of bytes not yet done
-pub pair_read : (g : ℕ → ℕ) (before after : List ℕ) (i : ℕ) → ((k : ℕ) → get_or before k 0 < 256) → PairsDone g before after i
-    → get_or after (2 * i) 0 + get_or after (2 * i + 1) 0 * 256 ≡ word 16 before i
-pair_read g before after i bytes so_far =
-    ap (λ v. v + get_or after (2 * i + 1) 0 * 256) (so_far.rest (2 * i) (omega arith))
-    ∙ ap (λ v. get_or before (2 * i) 0 + v * 256) (so_far.rest (2 * i + 1) (omega arith))
-    ∙ halves (get_or before (2 * i) 0) (get_or before (2 * i + 1) 0) (bytes (2 * i)) (bytes (2 * i + 1))
-    ∙ sym (word_16 i before)
-
-module _ (g : ℕ → ℕ) (before after : List ℕ) (i : ℕ) (lt : 2 * i + 1 < length before) (so_far : PairsDone g before after i)
-    (w : ℕ) (word_fits : w < 2 ^ 16) (is : w ≡ g (word 16 before i)) where
+module _ (R : ℕ → ℕ → Type 0) (before after : List ℕ) (i : ℕ) (lt : 2 * i + 1 < length before) (so_far : WordsDone R before after i)
+    (w : ℕ) (word_fits : w < 2 ^ 16) (is : R (word 16 before i) w) where
   next : List ℕ
   next = set (set after (2 * i) (w % 256)) (2 * i + 1) (w / 256 % 256)
 
@@ -107,18 +82,28 @@ module _ (g : ℕ → ℕ) (before after : List ℕ) (i : ℕ) (lt : 2 * i + 1 <
       ∙ ap (λ v. get_or after (2 * k + 1) 0 % 256 * 256 + v % 256) (kept (2 * k) (λ e. omega arith) (λ e. omega arith))
       ∙ sym (word_16 k after)
 
-  pub pairs_more : PairsDone g before (set (set after (2 * i) (w % 256)) (2 * i + 1) (w / 256 % 256)) (i + 1)
+  fits : (k : ℕ) → get_or next k 0 < 256
+  fits k =
+      ⊎_elim (λ e. subst (λ j. get_or next j 0 < 256) (sym e) (omega (arith, at_low)))
+      (λ other.
+      ⊎_elim (λ e. subst (λ j. get_or next j 0 < 256) (sym e) (omega (arith, at_high)))
+      (λ ne. omega (arith, kept k other ne, so_far.bytes k)) (cases_eq k (2 * i + 1)))
+      (cases_eq k (2 * i))
+
+  pub words_more : WordsDone R before (set (set after (2 * i) (w % 256)) (2 * i + 1) (w / 256 % 256)) (i + 1)
   unfolding next
-  pairs_more =
+  words_more =
       record {
         long = length-set (set after (2 * i) (w % 256)) (2 * i + 1) (w / 256 % 256) ∙ length-set after (2 * i) (w % 256) ∙ so_far.long;
+        bytes = fits;
         done = λ k below.
-            ⊎_elim (λ e. subst (λ j. word 16 next j ≡ g (word 16 before j)) (sym e) (written ∙ is))
-            (λ ne. earlier k (omega arith) ∙ so_far.done k (omega arith)) (cases_eq k i);
+            ⊎_elim (λ e. subst (λ j. R (word 16 before j) (word 16 next j)) (sym e) (subst (R (word 16 before i)) (sym written) is))
+            (λ ne. subst (R (word 16 before k)) (sym (earlier k (omega arith))) (so_far.done k (omega arith))) (cases_eq k i);
         rest = λ k above. kept k (λ e. omega arith) (λ e. omega arith) ∙ so_far.rest k (omega arith);
       }
 
-pub pairs_all : (n : ℕ) (g : ℕ → ℕ) (before after : List ℕ) → n ≡ 16 → PairsDone g before after 256 → Multiplied n g before after
-pairs_all n g before after is_16 all =
+-- each of the 256 words is g of the word before
+pub words_all : (n : ℕ) (g : ℕ → ℕ) (before after : List ℕ) → n ≡ 16 → ((i : ℕ) → i < 256 → word 16 after i ≡ g (word 16 before i)) → Multiplied n g before after
+words_all n g before after is_16 all =
     subst (λ m. Multiplied m g before after) (sym is_16)
-    record { words = λ fills i inside. all.done i (omega arith); same = λ no_words. absurd (no_words (inr refl)) }
+    record { words = λ fills i inside. all i (omega arith); same = λ no_words. absurd (no_words (inr refl)) }

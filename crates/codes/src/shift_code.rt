@@ -1,35 +1,22 @@
-ghost use Rattle.std.specs.Prelude.{◌≡◌, ℕ, ◌<◌, slice_index};
-ghost use Rattle.codes.specs.Blocks.{word as word_of};
+ghost use Rattle.std.specs.Prelude.{◌≡◌};
 ghost use Rattle.codes.specs.Doubling.{shift};
 ghost use Rattle.codes.specs.Shift.{shift_lawful};
 ghost use Rattle.std.proofs.Common.{rules};
 
 use crate::code::Code;
+use crate::wordwise::map_words;
+use blocks::Block;
 
 // Words of 16 bits. With a seventeenth bit beside them, g turns the seventeen by one place; a set seventeenth bit stands for flipping the others.
 #[derive(Clone, Copy)]
 pub struct ShiftCode;
 
-// g of a word: one turn of the seventeen bits.
+// g of a word: one turn of the seventeen bits. The byte code's differs in type and constants; a generic function would need more bounds than the two have lines.
 fn image(word: u16) -> u16
     ensures { result ≡ shift word }
 {
-    if word >= 0x8000 {
-        (word << 1) ^ 0xffff
-    } else {
-        word << 1
-    }
-}
-
-// The words of a block. They are read before any is written, so that the compiler may take many at a time.
-fn words_of(block: &[u8; 512]) -> [u16; 256]
-    ensures { (i : ℕ) → i < 256 → slice_index result i ≡ word_of 16 block.now i }
-{
-    let mut words = [0; 256];
-    for i in 0..256 {
-        words[i] = u16::from_le_bytes([block[2 * i], block[2 * i + 1]]);
-    }
-    words
+    let carry = if word >= 0x8000 { 0xffff } else { 0 };
+    (word << 1) ^ carry
 }
 
 impl Code for ShiftCode {
@@ -55,7 +42,7 @@ impl Code for ShiftCode {
 
     fn multiply(&self, word: u16, exponent: u32) -> u16 {
         let turn = exponent % 17;
-        let wide = word as u32;
+        let wide = u32::from(word);
         let turned = (wide << turn) ^ (wide >> (17 - turn));
         let low = (turned & 0xffff) as u16;
         if turned >> 16 & 1 == 1 {
@@ -65,12 +52,7 @@ impl Code for ShiftCode {
         }
     }
 
-    fn multiply_block(&self, block: &mut [u8; 512]) {
-        let words = words_of(block);
-        for i in 0..256 {
-            let [low, high] = image(words[i]).to_le_bytes();
-            block[2 * i] = low;
-            block[2 * i + 1] = high;
-        }
+    fn multiply_block(&self, block: &mut Block) {
+        map_words(block, image);
     }
 }
