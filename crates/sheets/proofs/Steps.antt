@@ -60,8 +60,8 @@ rows_read n i before after read l e m s =
     )
 
 -- what the whole body is, by how the rows ended
-pub body_stopped : (n : ℕ) (before after : SheetReader) (e : Refusal) → n ≤ 16 → ReadsRows n before (Err e) after → ReadsBody n before (Err e) after
-body_stopped n before after e l (f, none, (read, m, s)) =
+pub body_stopped : (n : ℕ) (before after : SheetReader) (e : Refusal) → ReadsRows n before (Err e) after → ReadsBody n before (Err e) after
+body_stopped n before after e (l, f, none, (read, m, s)) =
     inr (l, f, (length read, record { read = read; rest = left after; count = refl; words = s.words; front = s.front; bad = inl (m, none) }, refl, s.line))
 
 pub body_longer : (n : ℕ) (before after : SheetReader) (rows : List ℕ) (e : Refusal) → ReadsRows n before (Ok rows) after → (left after ≡ [] → ⊥) → e ≡ SheetForm after.line → ReadsBody n before (Err e) after

@@ -51,21 +51,21 @@ fn decimal(digits: &[u8]) -> Option<u16>
     if !(1..=3).contains(&digits.len()) {
         return None;
     }
-    if digits.len() > 1 && digits[0] == b'0' {
+    if let [b'0', _, ..] = digits {
         return None;
     }
-    let mut number = 0;
+    let mut value = 0;
     for byte in digits {
-        number = 10 * number + digit(*byte, 10)?;
+        value = 10 * value + digit(*byte, 10)?;
     }
-    Some(number)
+    Some(value)
 }
 
-// What a digit of this base stands for.
+// What a digit of this base stands for. (`char::to_digit` would give a u32, and take letters where the base is above 10.)
 fn digit(byte: u8, base: u8) -> Option<u16>
     ensures { MatchOption result ((d : ℕ) → d < base → byte ≢ 48 + d) (λ d. (d < base) × (byte ≡ 48 + d)) }
 {
     byte.checked_sub(b'0')
-        .filter(|digit| *digit < base)
+        .filter(|value| *value < base)
         .map(u16::from)
 }

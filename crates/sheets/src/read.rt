@@ -11,7 +11,7 @@ const MIN_ORDER: u16 = 2;
 const MAX_ORDER: u16 = 255;
 
 // What a sheet says: a square matrix of `width` rows, bit j of a row its column j, and the order asked of it.
-// The rows past the width are 0.
+// The rows past the width are 0: the array has room for the widest sheet, since a core crate has no heap.
 #[derive(Clone, Copy, Debug)]
 pub struct Sheet {
     pub width: u16,

@@ -1,6 +1,6 @@
 // A reader that works along the text of a sheet, line by line.
 ghost use Rattle.sheets.specs.Reading.{ReadsHeader, ReadsRow, ReadsRows, ReadsBody, Ends, left, on};
-ghost use Rattle.std.specs.Prelude.{◌≡◌, ◌≤◌, MatchOption, Ok, Err};
+ghost use Rattle.std.specs.Prelude.{◌≡◌, ◌≤◌, IfSome, IfNone, Ok, Err};
 
 use crate::lines::{header_line, row_line};
 use crate::width::RowWidth;
@@ -29,16 +29,14 @@ impl<'a> SheetReader<'a> {
     pub fn header(&mut self) -> Result<(u16, u16), Refusal>
         ensures { ReadsHeader self.old result self.new }
     {
-        let line = header_line(self.rest);
-        self.take_line(line)
+        self.take_line(header_line(self.rest))
     }
 
     // Reads the line of one row.
     fn row(&mut self, width: RowWidth) -> Result<u16, Refusal>
         ensures { ReadsRow width.columns self.old result self.new }
     {
-        let line = row_line(self.rest, width);
-        self.take_line(line)
+        self.take_line(row_line(self.rest, width))
     }
 
     // Reads as many rows as there are columns, into the first places of an array of zeros.
@@ -75,7 +73,8 @@ impl<'a> SheetReader<'a> {
 
     // Goes on to the next line with what was read of this one, or refuses this one, which stays unread.
     fn take_line<T>(&mut self, line: Option<(T, &'a [u8])>) -> Result<T, Refusal>
-        ensures { MatchOption line.entry ((result ≡ Err (Refusal.SheetForm self.old.line)) × (self.new ≡ self.old)) (λ p. (result ≡ Ok p.0) × (left self.new ≡ p.1.now) × (self.new.line ≡ on self.old.line 1)) }
+        ensures taken { IfSome line.entry (λ p. (result ≡ Ok p.0) × (left self.new ≡ p.1.now) × (self.new.line ≡ on self.old.line 1)) }
+        ensures refused { IfNone line.entry ((result ≡ Err (Refusal.SheetForm self.old.line)) × (self.new ≡ self.old)) }
     {
         let (value, rest) = line.ok_or(self.bad_line())?;
         self.rest = rest;

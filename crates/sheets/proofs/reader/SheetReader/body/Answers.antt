@@ -5,8 +5,7 @@ use Rattle.sheets.proofs.reader.SheetReader.body.Goals as goal
 pub returns-in_err-rows : goal.returns-in_err-rows
 returns-in_err-rows c =
     let p = err_from_is_err_and c.from_residual-in_err-rows.result c.from_residual-in_err-rows.ensures.1 in
-    let w = c.in_ok-width.width in
-    rw (p.1, p.2, ← c.in_ok-width.ensures) (body_stopped w.columns c.args.self.now c.rows.new.self _ w.in_word c.in_err-rows.ensures)
+    rw (p.1, p.2, ← c.in_ok-width.ensures) (body_stopped _ c.args.self.now c.rows.new.self _ c.in_err-rows.ensures)
 
 pub returns-in_err-end : goal.returns-in_err-end
 returns-in_err-end c =
