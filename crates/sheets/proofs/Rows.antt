@@ -1,5 +1,5 @@
 -- The digits of a row.
-use Rattle.std.proofs.Common.{◌≡◌, ℕ, zero, suc, ◌+◌, ◌*◌, ◌/◌, ◌%◌, ◌^◌, ◌<◌, ◌≤◌, false, List, [], ◌∷◌, ◌++◌, length, get_or, take, drop, sym, refl, ap, ◌∙◌, append_assoc, append-nil, pow-suc, arith, length-append}
+use Rattle.std.proofs.Common.{◌≡◌, ℕ, zero, suc, ◌+◌, ◌*◌, ◌/◌, ◌%◌, ◌^◌, ◌<◌, ◌≤◌, false, List, [], ◌∷◌, ◌++◌, length, get_or, take, drop, sym, refl, ap, ◌∙◌, append_assoc, pow-suc, arith, length-append}
 use Rattle.std.proofs.Math.Nat.{pow-le-pow_right}
 use Rattle.std.proofs.Math.Seq.{get_or-append_seam}
 use Rattle.std.proofs.lemmas.Bool.{false≢true}
@@ -31,9 +31,6 @@ pub record Read (columns unread : List ℕ) (row : ℕ) : Type 0 where
   pub count : ℕ
   pub small : row < 2 ^ count
   pub split : columns ≡ unread ++ digits count row
-
-pub read_none : (columns : List ℕ) → Read columns columns 0
-read_none columns = record { count = 0; small = omega arith; split = sym (append-nil columns) }
 
 pub read_more : (columns unread rest : List ℕ) (row column b : ℕ) → unread ≡ rest ++ column ∷ [] → b < 2 → column ≡ 48 + b → Read columns unread row → Read columns rest (2 * row + b)
 read_more columns unread rest row column b e h g r = record {

@@ -14,9 +14,6 @@ body_push n [] row = refl
 body_push n (x ∷ rows) row =
     ap (λ l. digits n x ++ feed ∷ l) (body_push n rows row) ∙ sym (append_assoc (digits n x) (feed ∷ body n rows) (digits n row ++ feed ∷ []))
 
-pub stands_none : (n : ℕ) (at : SheetReader) → Stands n at [] at
-stands_none n at = record { words = tt; front = refl; line = refl }
-
 pub stands_more : (n i : ℕ) (before at after : SheetReader) (rows : List ℕ) (row : ℕ) → i < length rows → row < 2 ^ n
     → left at ≡ digits n row ++ feed ∷ left after → after.line ≡ on at.line 1
     → Stands n before (take i rows) at → Stands n before (take (i + 1) (set rows i row)) after
