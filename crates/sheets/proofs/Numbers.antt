@@ -1,184 +1,100 @@
 -- Numbers below 1000 at the front of a text, by their one, two or three digits.
-use Rattle.std.proofs.Common.{◌≡◌, ℕ, ◌+◌, ◌-◌, ◌*◌, ◌/◌, ◌%◌, ◌^◌, ◌<◌, ◌≤◌, List, [], ◌∷◌, ◌++◌, length, get_or, take, drop, decimal, sym, refl, ap, ◌∙◌, append_assoc, arith}
+use Rattle.std.proofs.Common.{◌≡◌, ℕ, ◌+◌, ◌-◌, ◌*◌, ◌<◌, ◌≤◌, ◌≢◌, List, ◌∷◌, ◌++◌, length, get_or, take, drop, decimal, sym, refl, ap, ◌∙◌, subst, append_assoc, arith, length-append}
 use native.Mathlib.Decide.{dec_lt}
-use Rattle.std.specs.List.{AllByRecursion}
-use Rattle.std.proofs.lemmas.Fmt.{decimal_digit, decimal_step, decimal_injective}
-use Rattle.std.proofs.lemmas.List.{take_rest}
+use Rattle.std.specs.Char.{digit_value}
+use Rattle.std.specs.Str.Parse.{AllDigits, digits_value}
+use Rattle.std.proofs.lemmas.Fmt.{decimal_digit, decimal_injective, decimal_nonempty, decimal_is_IsNumeral, length-decimal-le, first_decimal, decimal-digits_value}
+use Rattle.std.proofs.lemmas.Int.Digits.{digits_more, digits_value_more}
+use Rattle.std.proofs.Math.ListN.{get_or-append}
+use Rattle.std.proofs.Math.Seq.{get_or-append_seam}
+use Rattle.std.proofs.lemmas.List.{take_all, take_at}
+use Rattle.std.proofs.lemmas.Str.{digit_value_digit}
+use Rattle.std.proofs.lemmas.Str.Parse.{digit_at, digits_value_short, numerals_by_value, tells_digits}
 use Rattle.sheets.specs.Lines.{NoDecimal, NoNumber}
 use Rattle.sheets.specs.Text.{header, feed, NoHeader}
+use Rattle.sheets.proofs.Rows.{same_fronts}
 
-pub decimal_two : (a b : ℕ) → 0 < a → a < 10 → b < 10 → decimal (10 * a + b) ≡ (48 + a) ∷ (48 + b) ∷ []
-decimal_two a b p q r =
-    let ten : 10 ≤ 10 * a + b = omega arith in
-    let small : 10 * a + b < 2 ^ 64 = omega arith in
-    let over : (10 * a + b) / 10 ≡ a = omega arith in
-    let under : (10 * a + b) % 10 ≡ b = omega arith in
-    decimal_step (10 * a + b) ten small ∙ rw (over, under, decimal_digit a q)
+-- the places before i hold digits, and the number is what they are worth
+abbrev pub Value : List ℕ → ℕ → ℕ → Type 0
+Value bytes i number = AllDigits 10 (take i bytes) × (number ≡ digits_value 10 (take i bytes))
 
-pub decimal_three : (a b c : ℕ) → 0 < a → a < 10 → b < 10 → c < 10 → decimal (100 * a + 10 * b + c) ≡ (48 + a) ∷ (48 + b) ∷ (48 + c) ∷ []
-decimal_three a b c p q r s =
-    let ten : 10 ≤ 100 * a + 10 * b + c = omega arith in
-    let small : 100 * a + 10 * b + c < 2 ^ 64 = omega arith in
-    let over : (100 * a + 10 * b + c) / 10 ≡ 10 * a + b = omega arith in
-    let under : (100 * a + 10 * b + c) % 10 ≡ c = omega arith in
-    decimal_step (100 * a + 10 * b + c) ten small ∙ rw (over, under, decimal_two a b p q r)
+pub value_more : (bytes : List ℕ) (i number d : ℕ) → i < length bytes → d < 10 → get_or bytes i 0 ≡ 48 + d → Value bytes i number → Value bytes (i + 1) (10 * number + d)
+value_more bytes i number d l h e (all, is) =
+    let worth : digit_value (get_or bytes i 0) ≡ d = omega (arith, digit_value_digit (get_or bytes i 0) (omega arith, omega arith)) in
+    (digits_more 10 bytes i l all (omega arith), omega (arith, digits_value_more 10 bytes i l))
 
--- the digits of a number below 1000
-pub data Spelled (v : ℕ) : Type 0 where
-  one : v < 10 → decimal v ≡ (48 + v) ∷ [] → Spelled v
-  two : (a b : ℕ) → 0 < a → a < 10 → b < 10 → decimal v ≡ (48 + a) ∷ (48 + b) ∷ [] → Spelled v
-  three : (a b c : ℕ) → 0 < a → a < 10 → b < 10 → c < 10 → decimal v ≡ (48 + a) ∷ (48 + b) ∷ (48 + c) ∷ [] → Spelled v
+-- one digit at least and three at most, and no 0 before others
+pub record Numeral (bytes : List ℕ) : Type 0 where
+  pub some : 0 < length bytes
+  pub few : length bytes ≤ 3
+  pub lead : 1 < length bytes → get_or bytes 0 0 ≢ 48
 
-pub spelled : (v : ℕ) → v < 1000 → Spelled v
-spelled v h =
-    elim (dec_lt v 10) [
-      | yes k ↦ one k (decimal_digit v k)
-      | no k ↦ elim (dec_lt v 100) [
-        | yes l ↦
-            let e : 10 * (v / 10) + v % 10 ≡ v = omega arith in
-            two (v / 10) (v % 10) (omega arith) (omega arith) (omega arith)
-            (ap decimal (sym e) ∙ decimal_two (v / 10) (v % 10) (omega arith) (omega arith) (omega arith))
-        | no l ↦
-            let e : 100 * (v / 100) + 10 * (v / 10 % 10) + v % 10 ≡ v = omega arith in
-            three (v / 100) (v / 10 % 10) (v % 10) (omega arith) (omega arith) (omega arith) (omega arith)
-            (ap decimal (sym e) ∙ decimal_three (v / 100) (v / 10 % 10) (v % 10) (omega arith) (omega arith) (omega arith) (omega arith))
+pub value_all : (bytes : List ℕ) (i number : ℕ) → Numeral bytes → length bytes ≤ i → Value bytes i number → (number < 1000) × (bytes ≡ decimal number)
+value_all bytes i number n l (all, is) =
+    let own = numerals_by_value (AllDigits 10) tells_digits in
+    let whole : take i bytes ≡ bytes = take_all i bytes l in
+    let P : List ℕ → Type 0 = AllDigits 10 in
+    let digits : AllDigits 10 bytes = subst P whole all in
+    let small : digits_value 10 bytes < 1000 = digits_value_short own bytes 3 digits n.few in
+    let same : number ≡ digits_value 10 bytes = is ∙ ap (digits_value 10) whole in
+    (omega arith, sym (decimal-digits_value own bytes digits n.some (λ z. elim (dec_lt 1 (length bytes)) [ yes k ↦ absurd (n.lead k z) | no k ↦ omega (arith, n.some) ]) (omega arith)) ∙ ap decimal (sym same))
+
+pub numeral : (v : ℕ) → v < 1000 → Numeral (decimal v)
+numeral v h = record {
+  some = decimal_nonempty v (omega arith);
+  few = length-decimal-le 3 v (omega arith) (omega arith) (omega arith);
+  lead = λ l z. elim (dec_lt 0 v) [
+    | yes k ↦ omega (arith, first_decimal v k (omega arith))
+    | no k ↦ omega (arith, ap length (decimal_digit v (omega arith)))
+  ];
+}
+
+pub no_numeral : (bytes : List ℕ) → (Numeral bytes → ⊥) → NoDecimal bytes
+no_numeral bytes none v h e = let P : List ℕ → Type 0 = Numeral in none (subst P (sym e) (numeral v h))
+
+-- each byte of a number is a digit
+pub digit_in : (v i : ℕ) → v < 1000 → i < length (decimal v) → (d : ℕ) × (d < 10) × (get_or (decimal v) i 0 ≡ 48 + d)
+digit_in v i h l =
+    let r = digit_at (decimal v) i (decimal_is_IsNumeral v (omega arith)).0.1 l in
+    (get_or (decimal v) i 0 - 48, omega (arith, r), omega (arith, r))
+
+pub no_digit : (bytes : List ℕ) (i : ℕ) → i < length bytes → ((d : ℕ) → d < 10 → get_or bytes i 0 ≡ 48 + d → ⊥) → NoDecimal bytes
+no_digit bytes i l none v h e =
+    let d = digit_in v i h (omega (arith, ap length e)) in
+    none d.0 d.1 (ap (λ x. get_or x i 0) e ∙ d.2)
+
+-- a byte below the digits stands first right behind a number
+pub ends_number : (end v place : ℕ) (text rest : List ℕ) → end < 48 → v < 1000 → text ≡ decimal v ++ end ∷ rest → get_or text place 0 ≡ end → ((k : ℕ) → k < place → get_or text k 0 ≢ end) → place ≡ length (decimal v)
+ends_number end v place text rest low h e at before =
+    elim (dec_lt place (length (decimal v))) [
+      | yes k ↦
+          let d = digit_in v place h k in
+          omega (arith, at, ap (λ x. get_or x place 0) e, get_or-append (decimal v) (end ∷ rest) 0 place k, d.1, d.2)
+      | no k ↦ elim (dec_lt (length (decimal v)) place) [
+        | yes l ↦ absurd (before (length (decimal v)) l (ap (λ x. get_or x (length (decimal v)) 0) e ∙ get_or-append_seam (decimal v) end rest 0))
+        | no l ↦ omega arith
       ]
     ]
 
--- no number has these digits
-pub no_one : (a : ℕ) → ((d : ℕ) → d < 10 → a ≡ 48 + d → ⊥) → NoDecimal (a ∷ [])
-no_one a none v h e =
-    elim (spelled v h) [
-      | one k s ↦ none v k (ap (λ l. get_or l 0 0) (e ∙ s))
-      | two x y p q r s ↦ omega (arith, ap length (e ∙ s))
-      | three x y z p q r t s ↦ omega (arith, ap length (e ∙ s))
-    ]
+-- the byte end stands nowhere
+pub no_end : (end : ℕ) (text : List ℕ) → ((k : ℕ) → k < length text → get_or text k 0 ≢ end) → NoNumber end text
+no_end end text none v rest h e =
+    none (length (decimal v)) (omega (arith, ap length e, length-append (decimal v) (end ∷ rest)))
+    (ap (λ x. get_or x (length (decimal v)) 0) e ∙ get_or-append_seam (decimal v) end rest 0)
 
-pub no_two : (a b : ℕ) → ((x y : ℕ) → 0 < x → x < 10 → y < 10 → a ≡ 48 + x → b ≡ 48 + y → ⊥) → NoDecimal (a ∷ b ∷ [])
-no_two a b none v h e =
-    elim (spelled v h) [
-      | one k s ↦ omega (arith, ap length (e ∙ s))
-      | two x y p q r s ↦ none x y p q r (ap (λ l. get_or l 0 0) (e ∙ s)) (ap (λ l. get_or l 1 0) (e ∙ s))
-      | three x y z p q r t s ↦ omega (arith, ap length (e ∙ s))
-    ]
-
-pub no_three : (a b c : ℕ) → ((x y z : ℕ) → 0 < x → x < 10 → y < 10 → z < 10 → a ≡ 48 + x → b ≡ 48 + y → c ≡ 48 + z → ⊥) → NoDecimal (a ∷ b ∷ c ∷ [])
-no_three a b c none v h e =
-    elim (spelled v h) [
-      | one k s ↦ omega (arith, ap length (e ∙ s))
-      | two x y p q r s ↦ omega (arith, ap length (e ∙ s))
-      | three x y z p q r t s ↦ none x y z p q r t (ap (λ l. get_or l 0 0) (e ∙ s)) (ap (λ l. get_or l 1 0) (e ∙ s)) (ap (λ l. get_or l 2 0) (e ∙ s))
-    ]
-
--- a number with the byte end behind it, by places
-pub data Placed (end : ℕ) (text : List ℕ) (v : ℕ) : Type 0 where
-  first : get_or text 0 0 ∷ [] ≡ decimal v → get_or text 1 0 ≡ end → 2 ≤ length text → Placed end text v
-  second : get_or text 0 0 ∷ get_or text 1 0 ∷ [] ≡ decimal v → 48 ≤ get_or text 1 0 → get_or text 2 0 ≡ end → 3 ≤ length text → Placed end text v
-  third : get_or text 0 0 ∷ get_or text 1 0 ∷ get_or text 2 0 ∷ [] ≡ decimal v → 48 ≤ get_or text 1 0 → 48 ≤ get_or text 2 0 → get_or text 3 0 ≡ end → 4 ≤ length text → Placed end text v
-
-pub placed : (end : ℕ) (text : List ℕ) (v : ℕ) (rest : List ℕ) → v < 1000 → text ≡ decimal v ++ end ∷ rest → Placed end text v
-placed end text v rest h e =
-    elim (spelled v h) [
-      | one k s ↦
-          let f : text ≡ (48 + v) ∷ end ∷ rest = e ∙ ap (λ l. l ++ end ∷ rest) s in
-          first (ap (λ l. get_or l 0 0 ∷ []) f ∙ sym s) (ap (λ l. get_or l 1 0) f) (omega (arith, ap length f))
-      | two x y p q r s ↦
-          let f : text ≡ (48 + x) ∷ (48 + y) ∷ end ∷ rest = e ∙ ap (λ l. l ++ end ∷ rest) s in
-          second (ap (λ l. get_or l 0 0 ∷ get_or l 1 0 ∷ []) f ∙ sym s) (omega (arith, ap (λ l. get_or l 1 0) f)) (ap (λ l. get_or l 2 0) f) (omega (arith, ap length f))
-      | three x y z p q r t s ↦
-          let f : text ≡ (48 + x) ∷ (48 + y) ∷ (48 + z) ∷ end ∷ rest = e ∙ ap (λ l. l ++ end ∷ rest) s in
-          third (ap (λ l. get_or l 0 0 ∷ get_or l 1 0 ∷ get_or l 2 0 ∷ []) f ∙ sym s) (omega (arith, ap (λ l. get_or l 1 0) f)) (omega (arith, ap (λ l. get_or l 2 0) f)) (ap (λ l. get_or l 3 0) f) (omega (arith, ap length f))
-    ]
-
--- the byte end stands at place 1, 2 or 3, and the bytes before it are no number
-module _ (end : ℕ) (text : List ℕ) (low : end < 48) where
-  pub none_first : get_or text 1 0 ≡ end → NoDecimal (get_or text 0 0 ∷ []) → NoNumber end text
-  none_first at none v rest h e =
-      elim (placed end text v rest h e) [
-        | first s a l ↦ none v h s
-        | second s b a l ↦ omega arith
-        | third s b d a l ↦ omega arith
-      ]
-
-  pub none_second : (get_or text 1 0 ≡ end → ⊥) → get_or text 2 0 ≡ end → NoDecimal (get_or text 0 0 ∷ get_or text 1 0 ∷ []) → NoNumber end text
-  none_second not at none v rest h e =
-      elim (placed end text v rest h e) [
-        | first s a l ↦ not a
-        | second s b a l ↦ none v h s
-        | third s b d a l ↦ omega arith
-      ]
-
-  pub none_third : (get_or text 1 0 ≡ end → ⊥) → (get_or text 2 0 ≡ end → ⊥) → NoDecimal (get_or text 0 0 ∷ get_or text 1 0 ∷ get_or text 2 0 ∷ []) → NoNumber end text
-  none_third not not' none v rest h e =
-      elim (placed end text v rest h e) [
-        | first s a l ↦ not a
-        | second s b a l ↦ not' a
-        | third s b d a l ↦ none v h s
-      ]
-
-  -- it stands at none of them
-  pub none_nowhere : (2 ≤ length text → get_or text 1 0 ≡ end → ⊥) → (3 ≤ length text → get_or text 2 0 ≡ end → ⊥) → (4 ≤ length text → get_or text 3 0 ≡ end → ⊥) → NoNumber end text
-  none_nowhere x y z v rest h e =
-      elim (placed end text v rest h e) [
-        | first s a l ↦ x l a
-        | second s b a l ↦ y l a
-        | third s b d a l ↦ z l a
-      ]
-
--- a text by its first bytes
-pub split_two : (text : List ℕ) → 2 ≤ length text → text ≡ get_or text 0 0 ∷ get_or text 1 0 ∷ drop 2 text
-split_two [] h = absurd (omega arith)
-split_two (a ∷ []) h = absurd (omega arith)
-split_two (a ∷ b ∷ text) h = refl
-
-pub split_three : (text : List ℕ) → 3 ≤ length text → text ≡ get_or text 0 0 ∷ get_or text 1 0 ∷ get_or text 2 0 ∷ drop 3 text
-split_three [] h = absurd (omega arith)
-split_three (a ∷ []) h = absurd (omega arith)
-split_three (a ∷ b ∷ []) h = absurd (omega arith)
-split_three (a ∷ b ∷ c ∷ text) h = refl
-
-pub split_four : (text : List ℕ) → 4 ≤ length text → text ≡ get_or text 0 0 ∷ get_or text 1 0 ∷ get_or text 2 0 ∷ get_or text 3 0 ∷ drop 4 text
-split_four [] h = absurd (omega arith)
-split_four (a ∷ []) h = absurd (omega arith)
-split_four (a ∷ b ∷ []) h = absurd (omega arith)
-split_four (a ∷ b ∷ c ∷ []) h = absurd (omega arith)
-split_four (a ∷ b ∷ c ∷ d ∷ text) h = refl
-
-module _ (end : ℕ) (text : List ℕ) (v : ℕ) where
-  pub found_first : 2 ≤ length text → get_or text 1 0 ≡ end → get_or text 0 0 ∷ [] ≡ decimal v → text ≡ decimal v ++ end ∷ take (length text - 2) (drop 2 text)
-  found_first l a s = split_two text l ∙ ap (λ x. get_or text 0 0 ∷ x ∷ drop 2 text) a ∙ ap (λ x. x ++ end ∷ drop 2 text) s ∙ ap (λ x. decimal v ++ end ∷ x) (sym (take_rest text 2))
-
-  pub found_second : 3 ≤ length text → get_or text 2 0 ≡ end → get_or text 0 0 ∷ get_or text 1 0 ∷ [] ≡ decimal v → text ≡ decimal v ++ end ∷ take (length text - 3) (drop 3 text)
-  found_second l a s = split_three text l ∙ ap (λ x. get_or text 0 0 ∷ get_or text 1 0 ∷ x ∷ drop 3 text) a ∙ ap (λ x. x ++ end ∷ drop 3 text) s ∙ ap (λ x. decimal v ++ end ∷ x) (sym (take_rest text 3))
-
-  pub found_third : 4 ≤ length text → get_or text 3 0 ≡ end → get_or text 0 0 ∷ get_or text 1 0 ∷ get_or text 2 0 ∷ [] ≡ decimal v → text ≡ decimal v ++ end ∷ take (length text - 4) (drop 4 text)
-  found_third l a s = split_four text l ∙ ap (λ x. get_or text 0 0 ∷ get_or text 1 0 ∷ get_or text 2 0 ∷ x ∷ drop 4 text) a ∙ ap (λ x. x ++ end ∷ drop 4 text) s ∙ ap (λ x. decimal v ++ end ∷ x) (sym (take_rest text 4))
-
--- all bytes of a number are digits
-pub digits_high : (v : ℕ) → v < 1000 → AllByRecursion (λ b. 48 ≤ b) (decimal v)
-digits_high v h =
-    elim (spelled v h) [
-      | one k s ↦ rw s (omega arith, tt)
-      | two x y p q r s ↦ rw s (omega arith, (omega arith, tt))
-      | three x y z p q r t s ↦ rw s (omega arith, (omega arith, (omega arith, tt)))
-    ]
-
--- two texts that are equal, each up to its first byte end
-pub up_to : (end : ℕ) → end < 48 → (xs ys : List ℕ) (r s : List ℕ) → AllByRecursion (λ b. 48 ≤ b) xs → AllByRecursion (λ b. 48 ≤ b) ys → xs ++ end ∷ r ≡ ys ++ end ∷ s → (xs ≡ ys) × (r ≡ s)
-up_to end low [] [] r s h k e = (refl, cc)
-up_to end low [] (y ∷ ys) r s h (k, ks) e = absurd (omega (arith, ap (λ l. get_or l 0 0) e))
-up_to end low (x ∷ xs) [] r s (h, hs) k e = absurd (omega (arith, ap (λ l. get_or l 0 0) e))
-up_to end low (x ∷ xs) (y ∷ ys) r s (h, hs) (k, ks) e =
-    let f : xs ++ end ∷ r ≡ ys ++ end ∷ s = cc in
-    let g : x ≡ y = cc in
-    let p = up_to end low xs ys r s hs ks f in
-    let q = p.0 in
-    (cc, p.1)
+-- what stands before the first byte end is no number
+pub no_number : (end place : ℕ) (text : List ℕ) → end < 48 → get_or text place 0 ≡ end → ((k : ℕ) → k < place → get_or text k 0 ≢ end) → NoDecimal (take place text) → NoNumber end text
+no_number end place text low at before none v rest h e =
+    none v h
+    (ap (take place) e ∙ ap (λ n. take n (decimal v ++ end ∷ rest)) (ends_number end v place text rest low h e at before)
+    ∙ take_at (decimal v) (end ∷ rest) (length (decimal v)) refl)
 
 pub same_number : (end v w : ℕ) (r s : List ℕ) → end < 48 → v < 1000 → w < 1000 → decimal v ++ end ∷ r ≡ decimal w ++ end ∷ s → (v ≡ w) × (r ≡ s)
 same_number end v w r s low h k e =
-    let p = up_to end low (decimal v) (decimal w) r s (digits_high v h) (digits_high w k) e in
-    (decimal_injective v w (omega arith) (omega arith) p.0, p.1)
+    let long : length (decimal v) ≡ length (decimal w) =
+    ends_number end w (length (decimal v)) (decimal v ++ end ∷ r) s low k e (get_or-append_seam (decimal v) end r 0) (λ i l z. let d = digit_in v i h l in omega (arith, get_or-append (decimal v) (end ∷ r) 0 i l, d.1, d.2)) in
+    let p = same_fronts (decimal v) (decimal w) (end ∷ r) (end ∷ s) long e in
+    (decimal_injective v w (omega arith) (omega arith) p.0, ap (drop 1) p.1)
 
 -- line 1, as its two numbers
 pub header_parts : (n N : ℕ) (rest : List ℕ) → header n N ++ rest ≡ decimal n ++ 32 ∷ (decimal N ++ feed ∷ rest)

@@ -1,6 +1,11 @@
 -- The digits of a row.
-use Rattle.std.proofs.Common.{◌≡◌, ℕ, zero, suc, ◌+◌, ◌-◌, ◌*◌, ◌/◌, ◌%◌, ◌^◌, ◌<◌, ◌≤◌, List, [], ◌∷◌, ◌++◌, length, get_or, take, drop, sym, refl, ap, ◌∙◌, pow-suc, arith, length-append}
-use Rattle.std.proofs.lemmas.List.{drop_more, drop_all, take_rest}
+use Rattle.std.proofs.Common.{◌≡◌, ℕ, zero, suc, ◌+◌, ◌*◌, ◌/◌, ◌%◌, ◌^◌, ◌<◌, ◌≤◌, false, List, [], ◌∷◌, ◌++◌, length, get_or, take, drop, sym, refl, ap, ◌∙◌, append_assoc, pow-suc, arith, length-append}
+use Rattle.std.proofs.Math.Nat.{pow-le-pow_right}
+use Rattle.std.proofs.Math.Seq.{get_or-append_seam}
+use Rattle.std.proofs.lemmas.Bool.{false≢true}
+use Rattle.std.proofs.lemmas.List.{drop_at, nil_from_length, take_at}
+use lib.Dec.{eqb}
+use lib.Pointwise.{pointwise}
 use Rattle.sheets.specs.Lines.{NoDigits}
 use Rattle.sheets.specs.Text.{digits, feed, NoRow}
 
@@ -21,28 +26,38 @@ digits_more n row b h =
     let high : (2 * row + b) / 2 ≡ row = omega arith in
     rw (low, high)
 
--- the columns from j on are those of the row
-abbrev pub Read : List ℕ → ℕ → ℕ → Type 0
-Read xs j row = (row < 2 ^ (length xs - j)) × (drop j xs ≡ digits (length xs - j) row)
+-- the columns but for those still unread are those of the row
+pub record Read (columns unread : List ℕ) (row : ℕ) : Type 0 where
+  pub count : ℕ
+  pub small : row < 2 ^ count
+  pub split : columns ≡ unread ++ digits count row
 
-pub read_none : (xs : List ℕ) → Read xs (length xs) 0
-read_none xs =
-    let e : length xs - length xs ≡ 0 = omega arith in
-    rw e (omega arith, drop_all (length xs) xs (omega arith))
+pub read_more : (columns unread rest : List ℕ) (row column b : ℕ) → unread ≡ rest ++ column ∷ [] → b < 2 → column ≡ 48 + b → Read columns unread row → Read columns rest (2 * row + b)
+read_more columns unread rest row column b e h g r = record {
+  count = suc r.count;
+  small = omega (arith, pow-suc 2 r.count, r.small);
+  split = r.split ∙ ap (λ x. x ++ digits r.count row) e ∙ append_assoc rest (column ∷ []) (digits r.count row)
+      ∙ ap (λ x. rest ++ x ∷ digits r.count row) g ∙ ap (λ x. rest ++ x) (sym (digits_more r.count row b h));
+}
 
-pub read_more : (xs : List ℕ) (j row b : ℕ) → 0 < j → j ≤ length xs → b < 2 → get_or xs (j - 1) 0 ≡ 48 + b → Read xs j row → Read xs (j - 1) (2 * row + b)
-read_more xs j row b p l h g (r, e) =
-    let k : ℕ = length xs - j in
-    let s : length xs - (j - 1) ≡ suc (length xs - j) = omega arith in
-    let t : j - 1 + 1 ≡ j = omega arith in
-    let u : 2 ^ suc (length xs - j) ≡ 2 ^ (length xs - j) * 2 = pow-suc 2 (length xs - j) in
-    let d : drop (j - 1) xs ≡ get_or xs (j - 1) 0 ∷ drop (j - 1 + 1) xs = drop_more xs (j - 1) 0 (omega arith) in
-    rw s (omega arith, d ∙ ap (λ x. x ∷ drop (j - 1 + 1) xs) g ∙ ap (λ x. (48 + b) ∷ drop x xs) t ∙ ap (λ x. (48 + b) ∷ x) e ∙ sym (digits_more (length xs - j) row b h))
+-- a row of sixteen columns at most, not all of them read, has room for one more
+pub read_room : (columns unread rest : List ℕ) (row column : ℕ) → unread ≡ rest ++ column ∷ [] → length columns ≤ 16 → Read columns unread row → row < 2 ^ 15
+read_room columns unread rest row column e l r =
+    omega (arith, r.small, pow-le-pow_right {n = 2} (omega arith) {i = r.count} {j = 15} (omega (arith, ap length r.split, length-append unread (digits r.count row), length_digits r.count row, ap length e, length-append rest (column ∷ []))))
 
-pub no_digits : (xs : List ℕ) (j : ℕ) → j < length xs → ((b : ℕ) → b < 2 → get_or xs j 0 ≡ 48 + b → ⊥) → NoDigits xs
-no_digits xs j l none row e =
-    let d = digit_is (length xs) row j l in
-    none d.0 d.1 (ap (λ x. get_or x j 0) e ∙ d.2)
+pub read_all : (columns unread : List ℕ) (row : ℕ) → length unread ≡ 0 → Read columns unread row → (row < 2 ^ length columns) × (columns ≡ digits (length columns) row)
+read_all columns unread row l r =
+    let split : columns ≡ digits r.count row = r.split ∙ ap (λ x. x ++ digits r.count row) (nil_from_length unread l) in
+    let count : length columns ≡ r.count = ap length split ∙ length_digits r.count row in
+    rw count (r.small, split)
+
+-- a column that is no digit
+pub no_digits : (columns unread rest : List ℕ) (row column : ℕ) → unread ≡ rest ++ column ∷ [] → ((b : ℕ) → b < 2 → column ≡ 48 + b → ⊥) → Read columns unread row → NoDigits columns
+no_digits columns unread rest row column e none r row' f =
+    let split : columns ≡ rest ++ column ∷ digits r.count row =
+    r.split ∙ ap (λ x. x ++ digits r.count row) e ∙ append_assoc rest (column ∷ []) (digits r.count row) in
+    let d = digit_is (length columns) row' (length rest) (omega (arith, ap length split, length-append rest (column ∷ digits r.count row))) in
+    none d.0 d.1 (sym (get_or-append_seam rest column (digits r.count row) 0) ∙ ap (λ x. get_or x (length rest) 0) (sym split ∙ f) ∙ d.2)
 
 -- fronts of one length
 pub same_fronts : (xs ys r s : List ℕ) → length xs ≡ length ys → xs ++ r ≡ ys ++ s → (xs ≡ ys) × (r ≡ s)
@@ -60,25 +75,13 @@ pub no_row_short : (n : ℕ) (text : List ℕ) → length text < n → NoRow n t
 no_row_short n text l row rest h e =
     omega (arith, ap length e ∙ length-append (digits n row) (feed ∷ rest), length_digits n row)
 
-split_one : (xs : List ℕ) → 0 < length xs → xs ≡ get_or xs 0 0 ∷ drop 1 xs
-split_one [] l = absurd (omega arith)
-split_one (x ∷ xs) l = refl
+-- no line feed stands behind the first n bytes
+pub no_row_feed : (n : ℕ) (text back : List ℕ) → back ≡ drop n text → pointwise eqb (take 1 back) (feed ∷ []) ≡ false → NoRow n text
+no_row_feed n text back cut none row rest h e =
+    let f : back ≡ feed ∷ rest = cut ∙ ap (drop n) e ∙ drop_at (digits n row) (feed ∷ rest) n (length_digits n row) in
+    false≢true (sym none ∙ ap (λ x. pointwise eqb (take 1 x) (feed ∷ [])) f)
 
--- a text that is cut after n bytes
-module _ (n : ℕ) (text front back : List ℕ) (cut : text ≡ front ++ back) (long : length front ≡ n) where
-  pub cut_row : (row : ℕ) (rest : List ℕ) → text ≡ digits n row ++ feed ∷ rest → (front ≡ digits n row) × (back ≡ feed ∷ rest)
-  cut_row row rest e = same_fronts front (digits n row) back (feed ∷ rest) (long ∙ sym (length_digits n row)) (sym cut ∙ e)
-
-  pub no_row_feed : (0 < length back → get_or back 0 0 ≡ 10 → ⊥) → NoRow n text
-  no_row_feed none row rest h e =
-      let b = (cut_row row rest e).1 in
-      none (omega (arith, ap length b)) (ap (λ l. get_or l 0 0) b)
-
-  pub no_row_digits : NoDigits front → NoRow n text
-  no_row_digits none row rest h e = none row ((cut_row row rest e).0 ∙ ap (λ k. digits k row) (sym long))
-
-  pub row_found : (row : ℕ) → row < 2 ^ length front → front ≡ digits (length front) row → 0 < length back → get_or back 0 0 ≡ 10 → (row < 2 ^ n) × (text ≡ digits n row ++ feed ∷ take (length back - 1) (drop 1 back))
-  row_found row h f l g =
-      let b : back ≡ feed ∷ drop 1 back = split_one back l ∙ ap (λ x. x ∷ drop 1 back) g in
-      let t : take (length back - 1) (drop 1 back) ≡ drop 1 back = take_rest back 1 in
-      (rw long at h, cut ∙ ap (λ x. x ++ back) (f ∙ ap (λ k. digits k row) long) ∙ ap (λ x. digits n row ++ x) (b ∙ ap (λ x. feed ∷ x) (sym t)))
+-- the first n bytes are not the digits of a row
+pub no_row_digits : (n : ℕ) (text front : List ℕ) → front ≡ take n text → length front ≡ n → NoDigits front → NoRow n text
+no_row_digits n text front cut long none row rest h e =
+    none row (cut ∙ ap (take n) e ∙ take_at (digits n row) (feed ∷ rest) n (length_digits n row) ∙ ap (λ k. digits k row) (sym long))

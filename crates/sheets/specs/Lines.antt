@@ -1,6 +1,13 @@
 -- What the parts of a line are read as.
-use Rattle.std.specs.Prelude.{◌≡◌, ℕ, ◌<◌, List, ◌∷◌, ◌++◌, length, decimal, Option, MatchOption, ◌≢◌}
+use Rattle.std.specs.Prelude.{◌≡◌, ℕ, ◌<◌, List, ◌∷◌, ◌++◌, length, decimal, Option, MatchOption, Result, MatchResult, ◌≢◌}
+use Rattle.refusals.specs.declared.Refusal.{Refusal}
+use Rattle.refusals.specs.declared.Refusal.TheVariants.{Width}
+use Rattle.sheets.specs.declared.width.RowWidth.{RowWidth}
 use Rattle.sheets.specs.Text.{digits}
+
+-- a width of at most 16 columns, or its refusal
+abbrev pub ReadsWidth : ℕ → Result RowWidth Refusal → Type 0
+ReadsWidth n r = MatchResult r (λ w. w.columns ≡ n) (λ e. (16 < n) × (e ≡ Width))
 
 -- the bytes are not a number below 1000
 abbrev pub NoDecimal : List ℕ → Type 0

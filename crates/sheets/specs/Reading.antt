@@ -25,7 +25,7 @@ abbrev pub ReadsRow : ℕ → SheetReader → Result ℕ Refusal → SheetReader
 ReadsRow n before (Ok row) after =
     (n ≤ 16) × (row < 2 ^ n) × (left before ≡ digits n row ++ feed ∷ left after) × (after.line ≡ on before.line 1)
 ReadsRow n before (Err e) after =
-    (((16 < n) × (e ≡ Width)) ⊎ ((n ≤ 16) × (e ≡ SheetForm before.line) × NoRow n (left before))) × (after ≡ before)
+    (n ≤ 16) × (e ≡ SheetForm before.line) × NoRow n (left before) × (after ≡ before)
 
 -- sixteen rows of n columns, those past the n-th 0
 pub record Rows (n : ℕ) (rows : List ℕ) : Type 0 where
@@ -42,8 +42,7 @@ pub record Stands (n : ℕ) (before : SheetReader) (read : List ℕ) (after : Sh
 abbrev pub ReadsRows : ℕ → SheetReader → Result (List ℕ) Refusal → SheetReader → Type 0
 ReadsRows n before (Ok rows) after = (n ≤ 16) × Rows n rows × Stands n before (take n rows) after
 ReadsRows n before (Err e) after =
-    ((16 < n) × (e ≡ Width) × (after ≡ before))
-    ⊎ ((n ≤ 16) × (e ≡ SheetForm after.line) × NoRow n (left after) × ((read : List ℕ) × (length read < n) × Stands n before read after))
+    (n ≤ 16) × (e ≡ SheetForm after.line) × NoRow n (left after) × ((read : List ℕ) × (length read < n) × Stands n before read after)
 
 abbrev pub Ends : SheetReader → Result (Unit {0}) Refusal → Type 0
 Ends at (Ok u) = left at ≡ []

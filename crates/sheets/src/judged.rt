@@ -14,6 +14,6 @@ pub fn judge_sheet(text: &[u8], generator: &mut Generator) -> Result<(), Refusal
     ensures enough { (m : ℕ) (whole : List ℕ) → 281 ≤ m → text.now ≡ take m whole → JudgesSheet whole result generator.old generator.new }
 {
     let sheet = read_sheet(text)?;
-    let width = usize::from(sheet.width);
-    judge(sheet.width, sheet.order, &sheet.rows[0..width], generator)
+    let rows = &sheet.rows[..usize::from(sheet.width)];
+    judge(sheet.width, sheet.order, rows, generator)
 }

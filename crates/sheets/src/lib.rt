@@ -5,7 +5,9 @@ mod judged;
 mod lines;
 mod read;
 mod reader;
+mod width;
 
 pub use judged::judge_sheet;
 pub use read::{Sheet, read_sheet};
-pub use reader::{MAX_WIDTH, SheetReader};
+pub use reader::SheetReader;
+pub use width::MAX_WIDTH;

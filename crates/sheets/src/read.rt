@@ -1,7 +1,8 @@
 // A whole sheet, read from its text.
 ghost use Rattle.sheets.specs.Verdict.{Answered};
 
-use crate::reader::{MAX_WIDTH, SheetReader};
+use crate::reader::SheetReader;
+use crate::width::MAX_WIDTH;
 use refusals::Refusal;
 
 // The orders that a sheet may ask for.
@@ -10,7 +11,7 @@ const MIN_ORDER: u16 = 2;
 const MAX_ORDER: u16 = 255;
 
 // What a sheet says: a square matrix of `width` rows, bit j of a row its column j, and the order asked of it.
-// The rows past the width are 0.
+// The rows past the width are 0: the array has room for the widest sheet, since a core crate has no heap.
 #[derive(Clone, Copy, Debug)]
 pub struct Sheet {
     pub width: u16,
@@ -24,10 +25,10 @@ pub fn read_sheet(text: &[u8]) -> Result<Sheet, Refusal>
 {
     let mut reader = SheetReader::new(text);
     let (width, order) = reader.header()?;
-    if width < 1 || width > MAX_WIDTH {
+    if !(1..=MAX_WIDTH).contains(&width) {
         return Err(Refusal::Width);
     }
-    if order < MIN_ORDER || order > MAX_ORDER {
+    if !(MIN_ORDER..=MAX_ORDER).contains(&order) {
         return Err(Refusal::Order);
     }
     let rows = reader.body(width)?;

@@ -1,12 +1,10 @@
 // A reader that works along the text of a sheet, line by line.
 ghost use Rattle.sheets.specs.Reading.{ReadsHeader, ReadsRow, ReadsRows, ReadsBody, Ends, left, on};
-ghost use Rattle.std.specs.Prelude.{◌≡◌};
+ghost use Rattle.std.specs.Prelude.{◌≡◌, ◌≤◌, IfSome, IfNone, Ok, Err};
 
 use crate::lines::{header_line, row_line};
+use crate::width::RowWidth;
 use refusals::Refusal;
-
-// A row is one word, of at most 16 columns.
-pub const MAX_WIDTH: u16 = 16;
 
 // Stands before the line `line` of a text, counted from 1, with `rest` still to read. The count stops at the
 // highest u32, which a sheet of at most 17 lines never comes to.
@@ -31,41 +29,23 @@ impl<'a> SheetReader<'a> {
     pub fn header(&mut self) -> Result<(u16, u16), Refusal>
         ensures { ReadsHeader self.old result self.new }
     {
-        match header_line(self.rest) {
-            Some((width, order, rest)) => {
-                self.advance(rest);
-                Ok((width, order))
-            }
-            None => Err(self.bad_line()),
-        }
+        self.take_line(header_line(self.rest))
     }
 
-    // Reads the line of one row. No word holds a row of more than 16 columns: such a width is refused.
-    fn row(&mut self, width: u16) -> Result<u16, Refusal>
-        ensures { ReadsRow width self.old result self.new }
+    // Reads the line of one row.
+    fn row(&mut self, width: RowWidth) -> Result<u16, Refusal>
+        ensures { ReadsRow width.columns self.old result self.new }
     {
-        if width > MAX_WIDTH {
-            return Err(Refusal::Width);
-        }
-        match row_line(self.rest, width) {
-            Some((row, rest)) => {
-                self.advance(rest);
-                Ok(row)
-            }
-            None => Err(self.bad_line()),
-        }
+        self.take_line(row_line(self.rest, width))
     }
 
     // Reads as many rows as there are columns, into the first places of an array of zeros.
-    fn rows(&mut self, width: u16) -> Result<[u16; 16], Refusal>
-        ensures { ReadsRows width self.old result self.new }
+    fn rows(&mut self, width: RowWidth) -> Result<[u16; 16], Refusal>
+        ensures { ReadsRows width.columns self.old result self.new }
     {
-        if width > MAX_WIDTH {
-            return Err(Refusal::Width);
-        }
         let mut rows = [0; 16];
-        for i in 0..usize::from(width) {
-            rows[i] = self.row(width)?;
+        for row in &mut rows[..width.columns] {
+            *row = self.row(width)?;
         }
         Ok(rows)
     }
@@ -85,17 +65,21 @@ impl<'a> SheetReader<'a> {
     pub fn body(&mut self, width: u16) -> Result<[u16; 16], Refusal>
         ensures { ReadsBody width self.old result self.new }
     {
+        let width = RowWidth::try_from(width)?;
         let rows = self.rows(width)?;
         self.end()?;
         Ok(rows)
     }
 
-    // Goes on to the next line, which `rest` begins with.
-    fn advance(&mut self, rest: &'a [u8])
-        ensures { (left self.new ≡ rest.now) × (self.new.line ≡ on self.old.line 1) }
+    // Goes on to the next line with what was read of this one, or refuses this one, which stays unread.
+    fn take_line<T>(&mut self, line: Option<(T, &'a [u8])>) -> Result<T, Refusal>
+        ensures taken { IfSome line.entry (λ p. (result ≡ Ok p.0) × (left self.new ≡ p.1.now) × (self.new.line ≡ on self.old.line 1)) }
+        ensures refused { IfNone line.entry ((result ≡ Err (Refusal.SheetForm self.old.line)) × (self.new ≡ self.old)) }
     {
+        let (value, rest) = line.ok_or(self.bad_line())?;
         self.rest = rest;
         self.line = self.line.saturating_add(1);
+        Ok(value)
     }
 
     // The refusal of the line that comes next.

@@ -8,8 +8,8 @@ mod tests {
     use std::process::Abort;
     use std::test::Fail;
 
-    fn bad_line(rt: &impl Abort, text: &[u8], line: u32) {
-        assert_eq!(rt; read_sheet(text).err(), Some(Refusal::SheetForm { line }));
+    fn refused(rt: &impl Abort, text: &[u8], refusal: Refusal) {
+        assert_eq!(rt; read_sheet(text).err(), Some(refusal));
     }
 
     #[test]
@@ -17,9 +17,7 @@ mod tests {
         let sheet = read_sheet(b"2 3\n01\n11\n")?;
         assert_eq!(rt; sheet.width, 2);
         assert_eq!(rt; sheet.order, 3);
-        assert_eq!(rt; sheet.rows[0], 2);
-        assert_eq!(rt; sheet.rows[1], 3);
-        assert_eq!(rt; sheet.rows[2], 0);
+        assert_eq!(rt; &sheet.rows[..3], [2, 3, 0].as_slice());
         Ok(())
     }
 
@@ -58,18 +56,23 @@ mod tests {
             (b"+2 3\n01\n11\n", 1),
         ];
         for (text, line) in cases {
-            bad_line(&rt, text, line);
+            refused(&rt, text, Refusal::SheetForm { line });
         }
     }
 
     #[test]
     fn width_and_order_first(rt: HostRuntime) {
-        assert_eq!(rt; read_sheet(b"0 3\n").err(), Some(Refusal::Width));
-        assert_eq!(rt; read_sheet(b"17 3\nnothing").err(), Some(Refusal::Width));
-        assert_eq!(rt; read_sheet(b"999 0\n").err(), Some(Refusal::Width));
-        assert_eq!(rt; read_sheet(b"2 0\n").err(), Some(Refusal::Order));
-        assert_eq!(rt; read_sheet(b"2 1\nxx\n").err(), Some(Refusal::Order));
-        assert_eq!(rt; read_sheet(b"2 256\n01\n11\n").err(), Some(Refusal::Order));
+        let cases: [(&[u8], Refusal); 6] = [
+            (b"0 3\n", Refusal::Width),
+            (b"17 3\nnothing", Refusal::Width),
+            (b"999 0\n", Refusal::Width),
+            (b"2 0\n", Refusal::Order),
+            (b"2 1\nxx\n", Refusal::Order),
+            (b"2 256\n01\n11\n", Refusal::Order),
+        ];
+        for (text, refusal) in cases {
+            refused(&rt, text, refusal);
+        }
     }
 
     #[test]
@@ -91,7 +94,7 @@ mod tests {
             (b"2 3\n01\n11\n\x00", 4),
         ];
         for (text, line) in cases {
-            bad_line(&rt, text, line);
+            refused(&rt, text, Refusal::SheetForm { line });
         }
     }
 }

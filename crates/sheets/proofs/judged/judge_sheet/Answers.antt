@@ -1,5 +1,4 @@
-use Rattle.std.proofs.Common.{◌≡◌, ◌-◌, take, refl, ap, ◌∙◌}
-use native.Mathlib.Nat.{sub-zero}
+use Rattle.std.proofs.Common.{◌≡◌, take, refl, ap}
 use Rattle.std.proofs.lemmas.Result.{err_from_is_err_and}
 use Rattle.sheets.specs.Judged.{unread}
 use Rattle.sheets.proofs.Judging.{judged}
@@ -14,8 +13,8 @@ returns-in_err-sheet c =
 pub returns : goal.returns
 returns c =
     let told = c.in_ok-sheet.ensures in
-    let rows : take (c.from-width.result - 0) c.in_ok-sheet.sheet.rows ≡ take c.in_ok-sheet.sheet.width c.in_ok-sheet.sheet.rows =
-    ap (λ n. take n c.in_ok-sheet.sheet.rows) (sub-zero c.from-width.result ∙ c.from-width.ensures) in
+    let rows : take c.from.result c.in_ok-sheet.sheet.rows ≡ take c.in_ok-sheet.sheet.width c.in_ok-sheet.sheet.rows =
+    ap (λ n. take n c.in_ok-sheet.sheet.rows) c.from.ensures in
     record {
       verdict = judged _ c.in_ok-sheet.sheet _ _ _ _ told.read rows c.judge.ensures.verdict c.judge.ensures.replaced;
       enough = λ m whole long is. judged _ c.in_ok-sheet.sheet _ _ _ _ (told.enough m whole long is) rows c.judge.ensures.verdict c.judge.ensures.replaced;

@@ -1,15 +1,20 @@
-use Rattle.std.proofs.Common.{◌-◌, arith}
-use Rattle.sheets.proofs.Rows.{read_none, read_more, no_digits}
+use Rattle.std.proofs.Common.{arith}
+use Rattle.sheets.proofs.Rows.{read_more, read_room, read_all, no_digits}
 use Rattle.sheets.proofs.lines.bits.Goals as goal
 
-pub loop-j-init : goal.loop-j-init
-loop-j-init c = read_none c.args.columns.now
+pub overflow_mul-row : goal.overflow_mul-row
+overflow_mul-row c = omega (arith, read_room _ _ _ _ _ (c.in-Some.ensures.steps) c.requires c.loop-column.invariant)
 
 pub returns-in_err-row : goal.returns-in_err-row
-returns-in_err-row c =
-    rw c.from_residual.ensures (no_digits c.args.columns.now (c.loop-j.j - 1) (omega arith) c.in_err-row.ensures)
+returns-in_err-row c = rw c.from_residual.ensures (no_digits _ _ _ _ _ c.in-Some.ensures.steps c.in_err-row.ensures c.loop-column.invariant)
 
-pub loop-j-preserved : goal.loop-j-preserved
-loop-j-preserved c =
+pub overflow_add-row : goal.overflow_add-row
+overflow_add-row c = omega (arith, c.in_ok-row.ensures.0, read_room _ _ _ _ _ (c.in-Some.ensures.steps) c.requires c.loop-column.invariant)
+
+pub loop-column-preserved : goal.loop-column-preserved
+loop-column-preserved c =
     let b = c.in_ok-row.ensures in
-    read_more c.args.columns.now c.loop-j.j c.loop-j.row _ (omega arith) (omega arith) b.0 b.1 c.loop-j.invariant
+    read_more _ _ _ _ _ _ c.in-Some.ensures.steps b.0 b.1 c.loop-column.invariant
+
+pub returns : goal.returns
+returns c = read_all _ _ _ (c.in-None.ensures.steps.0) c.loop-column.invariant

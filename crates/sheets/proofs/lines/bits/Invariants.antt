@@ -1,5 +1,5 @@
 use Rattle.sheets.proofs.Rows.{Read}
 use Rattle.sheets.proofs.lines.bits.Given as goal
 
-abbrev pub invariant-loop-j : goal.invariant-loop-j
-invariant-loop-j l = Read l.columns l.j l.row
+abbrev pub invariant-loop-column : goal.invariant-loop-column
+invariant-loop-column l = Read l.columns l.column-iterator.iter.rest.now l.row

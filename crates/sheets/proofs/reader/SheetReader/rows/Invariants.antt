@@ -1,7 +1,6 @@
 use Rattle.std.proofs.Common.{take}
 use Rattle.sheets.specs.Reading.{Stands}
-use Rattle.sheets.proofs.Steps.{Filling}
 use Rattle.sheets.proofs.reader.SheetReader.rows.Given as goal
 
-abbrev pub invariant-loop-i : goal.invariant-loop-i
-invariant-loop-i l = Filling l.width l.i l.rows × Stands l.width l.initial.self (take l.i l.rows) l.self
+abbrev pub invariant-loop-row : goal.invariant-loop-row
+invariant-loop-row l = Stands l.width.columns l.initial.self (take l.row-index l.row-items) l.self
