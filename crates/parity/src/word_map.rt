@@ -4,7 +4,7 @@ ghost use Rattle.cyclic.specs.Theorems.{undo};
 ghost use Rattle.codes.specs.Blocks.{FillsBlock, Multiplied, word as word_of};
 ghost use Rattle.parity.specs.WordMaps.{combined, combined_byte, Bytewise, Spread, Prepares};
 
-use crate::block::Block;
+use blocks::Block;
 use codes::Code;
 
 // A linear map of words, known by its images of the unit words, so that applying it costs the same for every map. It goes over a block by
@@ -24,7 +24,7 @@ const IDENTITY: [u16; 16] = [
 pub fn fills_block(width: u16) -> bool
     ensures { MatchBool result (FillsBlock width) (FillsBlock width → ⊥) }
 {
-    width == 2 || width == 4 || width == 8 || width == 16
+    matches!(width, 2 | 4 | 8 | 16)
 }
 
 // The units of a block. They are read before any is written, so that the compiler may take several at a time.
