@@ -1,4 +1,4 @@
-// Blocks, and the limits of a shelf by name. No crate stands on this one yet: the others have the numbers as they are.
+// Blocks, and the limits of a shelf by name.
 #![tactic(auto)]
 
 // How many bytes a block has.

@@ -56,30 +56,25 @@ whole_byte g b r lb lr e =
       same = λ no_words. absurd (no_words (inr (inr refl)));
     }
 
--- the words of 16 bits below i are done, and the bytes of the others as they were
-pub record PairsDone (g : ℕ → ℕ) (before after : List ℕ) (i : ℕ) : Type 0 where
+-- the words of 16 bits below i are done, each by R, and the bytes of the others as they were
+pub record WordsDone (R : ℕ → ℕ → Type 0) (before after : List ℕ) (i : ℕ) : Type 0 where
   pub long : length after ≡ length before
-  pub done : (k : ℕ) → k < i → word 16 after k ≡ g (word 16 before k)
+  pub bytes : (k : ℕ) → get_or after k 0 < 256
+  pub done : (k : ℕ) → k < i → R (word 16 before k) (word 16 after k)
   pub rest : (k : ℕ) → 2 * i ≤ k → get_or after k 0 ≡ get_or before k 0
 
-pub pairs_none : (g : ℕ → ℕ) (block : List ℕ) → PairsDone g block block 0
-pairs_none g block = record { long = refl; done = λ k lt. absurd (omega arith); rest = λ k le. refl }
+pub words_none : (R : ℕ → ℕ → Type 0) (block : List ℕ) → ((k : ℕ) → get_or block k 0 < 256) → WordsDone R block block 0
+words_none R block bytes = record { long = refl; bytes = bytes; done = λ k lt. absurd (omega arith); rest = λ k le. refl }
 
--- a word of two bytes
-pub halves : (a b : ℕ) → a < 256 → b < 256 → a + b * 256 ≡ b % 256 * 256 + a % 256
-halves a b la lb = omega arith
+-- a word that is read from its two bytes
+pub word_read : (i : ℕ) (block : List ℕ) → ((k : ℕ) → get_or block k 0 < 256) → get_or block (2 * i) 0 + get_or block (2 * i + 1) 0 * 256 ≡ word 16 block i
+word_read i block bytes = halves (get_or block (2 * i) 0) (get_or block (2 * i + 1) 0) (bytes (2 * i)) (bytes (2 * i + 1)) ∙ sym (word_16 i block)
+  where
+    halves : (a b : ℕ) → a < 256 → b < 256 → a + b * 256 ≡ b % 256 * 256 + a % 256
+    halves a b la lb = omega arith
 
--- the word that is read from a pair of bytes not yet done
-pub pair_read : (g : ℕ → ℕ) (before after : List ℕ) (i : ℕ) → ((k : ℕ) → get_or before k 0 < 256) → PairsDone g before after i
-    → get_or after (2 * i) 0 + get_or after (2 * i + 1) 0 * 256 ≡ word 16 before i
-pair_read g before after i bytes so_far =
-    ap (λ v. v + get_or after (2 * i + 1) 0 * 256) (so_far.rest (2 * i) (omega arith))
-    ∙ ap (λ v. get_or before (2 * i) 0 + v * 256) (so_far.rest (2 * i + 1) (omega arith))
-    ∙ halves (get_or before (2 * i) 0) (get_or before (2 * i + 1) 0) (bytes (2 * i)) (bytes (2 * i + 1))
-    ∙ sym (word_16 i before)
-
-module _ (g : ℕ → ℕ) (before after : List ℕ) (i : ℕ) (lt : 2 * i + 1 < length before) (so_far : PairsDone g before after i)
-    (w : ℕ) (word_fits : w < 2 ^ 16) (is : w ≡ g (word 16 before i)) where
+module _ (R : ℕ → ℕ → Type 0) (before after : List ℕ) (i : ℕ) (lt : 2 * i + 1 < length before) (so_far : WordsDone R before after i)
+    (w : ℕ) (word_fits : w < 2 ^ 16) (is : R (word 16 before i) w) where
   next : List ℕ
   next = set (set after (2 * i) (w % 256)) (2 * i + 1) (w / 256 % 256)
 
@@ -107,18 +102,28 @@ module _ (g : ℕ → ℕ) (before after : List ℕ) (i : ℕ) (lt : 2 * i + 1 <
       ∙ ap (λ v. get_or after (2 * k + 1) 0 % 256 * 256 + v % 256) (kept (2 * k) (λ e. omega arith) (λ e. omega arith))
       ∙ sym (word_16 k after)
 
-  pub pairs_more : PairsDone g before (set (set after (2 * i) (w % 256)) (2 * i + 1) (w / 256 % 256)) (i + 1)
+  fits : (k : ℕ) → get_or next k 0 < 256
+  fits k =
+      ⊎_elim (λ e. subst (λ j. get_or next j 0 < 256) (sym e) (omega (arith, at_low)))
+      (λ other.
+      ⊎_elim (λ e. subst (λ j. get_or next j 0 < 256) (sym e) (omega (arith, at_high)))
+      (λ ne. omega (arith, kept k other ne, so_far.bytes k)) (cases_eq k (2 * i + 1)))
+      (cases_eq k (2 * i))
+
+  pub words_more : WordsDone R before (set (set after (2 * i) (w % 256)) (2 * i + 1) (w / 256 % 256)) (i + 1)
   unfolding next
-  pairs_more =
+  words_more =
       record {
         long = length-set (set after (2 * i) (w % 256)) (2 * i + 1) (w / 256 % 256) ∙ length-set after (2 * i) (w % 256) ∙ so_far.long;
+        bytes = fits;
         done = λ k below.
-            ⊎_elim (λ e. subst (λ j. word 16 next j ≡ g (word 16 before j)) (sym e) (written ∙ is))
-            (λ ne. earlier k (omega arith) ∙ so_far.done k (omega arith)) (cases_eq k i);
+            ⊎_elim (λ e. subst (λ j. R (word 16 before j) (word 16 next j)) (sym e) (subst (R (word 16 before i)) (sym written) is))
+            (λ ne. subst (R (word 16 before k)) (sym (earlier k (omega arith))) (so_far.done k (omega arith))) (cases_eq k i);
         rest = λ k above. kept k (λ e. omega arith) (λ e. omega arith) ∙ so_far.rest k (omega arith);
       }
 
-pub pairs_all : (n : ℕ) (g : ℕ → ℕ) (before after : List ℕ) → n ≡ 16 → PairsDone g before after 256 → Multiplied n g before after
-pairs_all n g before after is_16 all =
+-- each of the 256 words is g of the word before
+pub words_all : (n : ℕ) (g : ℕ → ℕ) (before after : List ℕ) → n ≡ 16 → ((i : ℕ) → i < 256 → word 16 after i ≡ g (word 16 before i)) → Multiplied n g before after
+words_all n g before after is_16 all =
     subst (λ m. Multiplied m g before after) (sym is_16)
-    record { words = λ fills i inside. all.done i (omega arith); same = λ no_words. absurd (no_words (inr refl)) }
+    record { words = λ fills i inside. all i (omega arith); same = λ no_words. absurd (no_words (inr refl)) }

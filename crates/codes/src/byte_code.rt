@@ -5,6 +5,7 @@ ghost use Rattle.std.proofs.Common.{rules};
 
 use crate::code::Code;
 use crate::tables::{LOGS, POWERS};
+use blocks::Block;
 
 // Words of 8 bits. Every nonzero byte is a power of g times 1, so a product is a sum of two logarithms.
 #[derive(Clone, Copy)]
@@ -51,7 +52,7 @@ impl Code for ByteCode {
         POWERS[(log % 255) as usize] as u16
     }
 
-    fn multiply_block(&self, block: &mut [u8; 512]) {
+    fn multiply_block(&self, block: &mut Block) {
         for byte in block.iter_mut() {
             *byte = image(*byte);
         }

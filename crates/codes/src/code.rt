@@ -2,6 +2,9 @@ ghost use Rattle.std.specs.Prelude.{◌≡◌, ℕ, ◌%◌, ◌^◌, ◌<◌, �
 ghost use Rattle.codes.specs.Blocks.{Multiplied, MultipliedByte};
 ghost use Rattle.cyclic.specs.Maps.{power, Lawful};
 
+use crate::wordwise::map_words;
+use blocks::Block;
+
 // A code is a plain value: a width, an order, and a map of words that applied as many times as the order gives every word back.
 pub trait Code: Copy {
     // the width of a word, in bits
@@ -42,16 +45,11 @@ pub trait Code: Copy {
     }
 
     // The words of a block times g, in place. A block has words of 2, 4, 8 or 16 bits; at any other width it stays as it is.
-    fn multiply_block(&self, block: &mut [u8; 512])
+    fn multiply_block(&self, block: &mut Block)
         ensures { Multiplied (bits self.now) (map self.now) block.old block.new }
     {
         if self.width() == 16 {
-            for i in 0..256 {
-                let word = u16::from_le_bytes([block[2 * i], block[2 * i + 1]]);
-                let [low, high] = self.multiply(word, 1).to_le_bytes();
-                block[2 * i] = low;
-                block[2 * i + 1] = high;
-            }
+            map_words(block, |word| self.multiply(word, 1));
         } else {
             for byte in block.iter_mut() {
                 *byte = self.multiply_byte(*byte);

@@ -1,10 +1,11 @@
-ghost use Rattle.std.specs.Prelude.{◌≡◌, ℕ, ◌<◌, slice_index};
-ghost use Rattle.codes.specs.Blocks.{word as word_of};
+ghost use Rattle.std.specs.Prelude.{◌≡◌};
 ghost use Rattle.codes.specs.Doubling.{shift};
 ghost use Rattle.codes.specs.Shift.{shift_lawful};
 ghost use Rattle.std.proofs.Common.{rules};
 
 use crate::code::Code;
+use crate::wordwise::map_words;
+use blocks::Block;
 
 // Words of 16 bits. With a seventeenth bit beside them, g turns the seventeen by one place; a set seventeenth bit stands for flipping the others.
 #[derive(Clone, Copy)]
@@ -19,17 +20,6 @@ fn image(word: u16) -> u16
     } else {
         word << 1
     }
-}
-
-// The words of a block. They are read before any is written, so that the compiler may take many at a time.
-fn words_of(block: &[u8; 512]) -> [u16; 256]
-    ensures { (i : ℕ) → i < 256 → slice_index result i ≡ word_of 16 block.now i }
-{
-    let mut words = [0; 256];
-    for i in 0..256 {
-        words[i] = u16::from_le_bytes([block[2 * i], block[2 * i + 1]]);
-    }
-    words
 }
 
 impl Code for ShiftCode {
@@ -65,12 +55,7 @@ impl Code for ShiftCode {
         }
     }
 
-    fn multiply_block(&self, block: &mut [u8; 512]) {
-        let words = words_of(block);
-        for i in 0..256 {
-            let [low, high] = image(words[i]).to_le_bytes();
-            block[2 * i] = low;
-            block[2 * i + 1] = high;
-        }
+    fn multiply_block(&self, block: &mut Block) {
+        map_words(block, image);
     }
 }
