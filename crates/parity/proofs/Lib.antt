@@ -4,3 +4,4 @@ pub mod Fields
 pub mod Bytes
 pub mod Evens
 pub mod Encoded
+pub mod Arrays
