@@ -1,5 +1,5 @@
 -- Words as fields of the units of a block: a map of the words is a map of the units.
-use Rattle.std.proofs.Common.{◌≡◌, ℕ, zero, suc, ◌+◌, ◌-◌, ◌*◌, ◌/◌, ◌%◌, ◌^◌, ◌<◌, ◌≤◌, ◌≢◌, ◌⊎◌, List, length, get_or, sym, refl, ap, ◌∙◌, subst, inl, inr, ⊎_elim, mod-eq_of_lt, mul_assoc, one-mul, zero-mul, arith, lit<}
+use Rattle.std.proofs.Common.{◌≡◌, ℕ, zero, suc, ◌+◌, ◌-◌, ◌*◌, ◌/◌, ◌%◌, ◌^◌, ◌<◌, ◌≤◌, ◌≢◌, ◌⊎◌, List, length, get_or, sym, refl, ap, ◌∙◌, subst, inl, inr, ⊎_elim, mod-eq_of_lt, mul_assoc, mul-one, one-mul, zero-mul, arith, lit<}
 use native.Mathlib.Nat.{div-eq_of_lt, mul-mod_left}
 use lib.Bits.{xor_zero_l, xor_zero_r}
 use Rattle.std.proofs.lemmas.Nat.{mod_below, shr_high, mod_low, pow_pos, pow-add, pow_below, shl-shr, shl_below, shl_whole}
@@ -229,18 +229,35 @@ module _ (images : List ℕ) where
       plain : (FillsBlock n → ⊥) → Linear 16 (combined images)
       plain no_words = combined_linear (λ b lt. subst (λ v. v < 2 ^ 16) (sym (ready.spread.other no_words b lt)) (pow_below b 16 lt))
 
--- the map whose images of the unit words stand in `units`
-pub prepared : (n : ℕ) (f : ℕ → ℕ) → Linear n f → FillsBlock n → (units images : List ℕ) → ((t : ℕ) → t < n → get_or units t 0 ≡ f (2 ^ t))
-    → ((b : ℕ) → b < 16 → get_or images b 0 ≡ get_or units (b % n) 0 * 2 ^ (b - b % n) % 2 ^ 16) → Prepares n f images
-prepared n f lin fills units images unit image =
-    record {
-      linear = lin;
-      spread = record {
-        fields = λ _ b lt.
-            let inside : b % n < n = mod_below b n (positive n fills) in
-            image b lt
-            ∙ ap (λ v. v * 2 ^ (b - b % n) % 2 ^ 16) (unit (b % n) inside)
-            ∙ shifted n fills (f (2 ^ (b % n))) b lt (lin.words (2 ^ (b % n)) (pow_below (b % n) n inside));
-        other = λ none. absurd (none fills);
-      };
-    }
+-- The first n images are those of the unit words, and the others the same again, n bits further up.
+module _ (n : ℕ) (f : ℕ → ℕ) (lin : Linear n f) (fills : FillsBlock n) (images : List ℕ) (first : (t : ℕ) → t < n → get_or images t 0 ≡ f (2 ^ t))
+    (again : (b : ℕ) → n ≤ b → b < 16 → get_or images b 0 ≡ get_or images (b - n) 0 * 2 ^ n % 2 ^ 16) where
+  field : (fuel b : ℕ) → b < fuel → b < 16 → get_or images b 0 ≡ f (2 ^ (b % n)) * 2 ^ (b - b % n)
+  field zero b less lt = absurd (omega arith)
+  field (suc fuel) b less lt = ⊎_elim (λ under. lowest under) (λ high. higher high (field fuel (b - n) (omega (arith, positive n fills)) (omega arith))) (cases_lt b n)
+    where
+      lowest : b < n → get_or images b 0 ≡ f (2 ^ (b % n)) * 2 ^ (b - b % n)
+      lowest under =
+          let same : b % n ≡ b = mod-eq_of_lt under in
+          let down : b - b % n ≡ 0 = omega arith in
+          first b under ∙ ap (λ k. f (2 ^ k)) (sym same) ∙ sym (mul-one (f (2 ^ (b % n)))) ∙ ap (λ k. f (2 ^ (b % n)) * 2 ^ k) (sym down)
+
+      higher : n ≤ b → get_or images (b - n) 0 ≡ f (2 ^ ((b - n) % n)) * 2 ^ (b - n - (b - n) % n)
+          → get_or images b 0 ≡ f (2 ^ (b % n)) * 2 ^ (b - b % n)
+      higher high one_down =
+          let v : ℕ = f (2 ^ ((b - n) % n)) in
+          let p : ℕ = b - n - (b - n) % n in
+          let same : (b - n) % n ≡ b % n = by_width (λ m. m ≤ b → (b - m) % m ≡ b % m) (λ h. omega arith) (λ h. omega arith) (λ h. omega arith) (λ h. omega arith) n fills high in
+          let place : p + n ≡ b - b % n = omega (arith, mod_le (b - n)) in
+          again b high lt
+          ∙ ap (λ x. x * 2 ^ n % 2 ^ 16) one_down
+          ∙ ap (λ x. x % 2 ^ 16) (mul_assoc v (2 ^ p) (2 ^ n) ∙ ap (λ x. v * x) (sym (pow-add 2 p n)))
+          ∙ ap (λ k. v * 2 ^ k % 2 ^ 16) place
+          ∙ ap (λ k. f (2 ^ k) * 2 ^ (b - b % n) % 2 ^ 16) same
+          ∙ shifted n fills (f (2 ^ (b % n))) b lt (lin.words (2 ^ (b % n)) (pow_below (b % n) n (mod_below b n (positive n fills))))
+        where
+          mod_le : (a : ℕ) → a % n ≤ a
+          mod_le a = by_width (λ m. a % m ≤ a) (omega arith) (omega arith) (omega arith) (omega arith) n fills
+
+  pub prepared : Prepares n f images
+  prepared = record { linear = lin; spread = record { fields = λ _ b lt. field (b + 1) b (omega arith) lt; other = λ none. absurd (none fills) } }

@@ -4,4 +4,3 @@ pub mod Fields
 pub mod Bytes
 pub mod Evens
 pub mod Encoded
-pub mod Arrays

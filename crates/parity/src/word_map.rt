@@ -73,14 +73,15 @@ impl WordMap {
                 images: array::from_fn(|b| 1 << b),
             };
         }
-        let mut units = [0; 16];
+        let mut images = [0; 16];
         for t in 0..width {
-            units[usize::from(t)] = image(1 << t);
+            images[usize::from(t)] = image(1 << t);
         }
-        let width = usize::from(width);
-        WordMap {
-            images: array::from_fn(|b| units[b % width] << (b - b % width)),
+        // the other words of a unit have the same images, further up
+        for b in width..16 {
+            images[usize::from(b)] = images[usize::from(b - width)] << width;
         }
+        WordMap { images }
     }
 
     // The multiplication by g to the exponent.

@@ -22,11 +22,11 @@ loop-block-preserved g c =
     let code = g.C.Code in
     let self = c.args.code.now in
     let blocks : List (List ℕ) = first_chunks 512 (length c.args.«data».now / 512) c.args.«data».now in
-    let turn = YieldsList-turn (YieldsList-from_rev_slice blocks cc) c.loop-block.yielded _ c.loop-block.yielded_by _ _ c.in-Some.block c.in-Some.is c.next.ensures.steps in
+    let turn = YieldsList-turn (YieldsList-from_rev_slice blocks cc) c.loop-block.yielded _ c.loop-block.yielded_by _ _ c.in-Some.field-0 c.in-Some.is c.next.ensures.steps in
     let size : length c.args.«data».now ≡ c.args.k * 512 = omega arith in
     next_down (code.bits self) (code.map self) (g.met.C.Code.lawful self).linear c.if-not-fits.ensures.width c.args.«data».now c.args.k size
-    c.loop-block.sums c.absorb.new.self c.in-Some.block.now (length c.loop-block.yielded) _
-    (omega (arith, turn.0, downwards c.args.«data».now c.args.k size)) (length_push c.loop-block.yielded c.in-Some.block) turn.1 c.loop-block.invariant c.absorb.ensures
+    c.loop-block.sums c.absorb.new.self c.in-Some.field-0.now (length c.loop-block.yielded) _
+    (omega (arith, turn.0, downwards c.args.«data».now c.args.k size)) (length_push c.loop-block.yielded _) turn.1 c.loop-block.invariant c.absorb.ensures
 
 pub returns : goal.returns
 returns g c =
