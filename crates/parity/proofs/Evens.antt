@@ -1,5 +1,5 @@
 -- The sum of the even powers, by doubling its number of terms.
-use Rattle.std.proofs.Common.{◌≡◌, ℕ, suc, ◌+◌, ◌-◌, ◌*◌, ◌/◌, ◌%◌, ◌^◌, ◌<◌, sym, ap, ◌∙◌, mod-eq_of_lt, mul_assoc, mul_comm, add-mul, zero-mul, mul-add, add-one, arith}
+use Rattle.std.proofs.Common.{◌≡◌, ℕ, suc, ◌+◌, ◌-◌, ◌*◌, ◌/◌, ◌%◌, ◌^◌, ◌<◌, sym, ap, ◌∙◌, subst, mod-eq_of_lt, mul_assoc, mul_comm, add-mul, zero-mul, mul-add, add-one, arith}
 use lib.Bits.{bit_and, and_mask}
 use Rattle.std.proofs.lemmas.Nat.{shr-shr, mod_below}
 use Rattle.cyclic.specs.Maps.{◌⊕◌, sum, power, Linear, Returns}
@@ -81,18 +81,21 @@ module _ (n N : ℕ) (g : ℕ → ℕ) (lin : Linear n g) (home : Returns n N g)
       exponent : (t : ℕ) → 2 * z + 2 * t * z ≡ 2 * suc t * z
       exponent t = sym (add-mul 2 (2 * t) z) ∙ ap (λ v. v * z) (let e : 2 + 2 * t ≡ 2 * suc t = omega arith in e)
 
-  module _ (T p count s r : ℕ) (pos : 0 < p) (counted : count ≡ T / 2 ^ p) (so_far : s ≡ evens g z w count)
-      (by : r ≡ power g (count * (2 * z) % N) (s % 2 ^ n)) where
+  module _ (step : ℕ) (twice : step ≡ 2 * z) (T p count s r : ℕ) (pos : 0 < p) (counted : count ≡ T / 2 ^ p) (so_far : s ≡ evens g z w count)
+      (by : r ≡ power g (count * step % N) (s % 2 ^ n)) where
     doubled : s ⊕ r ≡ evens g z w (count * 2)
-    doubled = ap (λ v. v ⊕ r) so_far ∙ ap (λ v. evens g z w count ⊕ v) (times (count * (2 * z)) s r count so_far by) ∙ double count
+    doubled =
+        ap (λ v. v ⊕ r) so_far
+        ∙ ap (λ v. evens g z w count ⊕ v) (times (count * (2 * z)) s r count so_far (subst (λ e. r ≡ power g (count * e % N) (s % 2 ^ n)) twice by))
+        ∙ double count
 
     pub clear : (bit_and (T / 2 ^ (p - 1)) 1 ≡ 1 → ⊥) → (count * 2 ≡ T / 2 ^ (p - 1)) × (s ⊕ r ≡ evens g z w (count * 2))
     clear ne =
         (omega (arith, halved T p pos, and_mask (T / 2 ^ (p - 1)) 1, mod_below (T / 2 ^ (p - 1)) 2 (omega arith), ne), doubled)
 
-    pub set : (r' : ℕ) → r' ≡ power g (2 * z % N) ((s ⊕ r) % 2 ^ n) → bit_and (T / 2 ^ (p - 1)) 1 ≡ 1
+    pub set : (r' : ℕ) → r' ≡ power g (step % N) ((s ⊕ r) % 2 ^ n) → bit_and (T / 2 ^ (p - 1)) 1 ≡ 1
         → (count * 2 + 1 ≡ T / 2 ^ (p - 1)) × (w ⊕ r' ≡ evens g z w (count * 2 + 1))
     set r' by' e = (
       omega (arith, halved T p pos, and_mask (T / 2 ^ (p - 1)) 1, e),
-      ap (λ v. w ⊕ v) (times (2 * z) (s ⊕ r) r' (count * 2) doubled by') ∙ more (count * 2),
+      ap (λ v. w ⊕ v) (times (2 * z) (s ⊕ r) r' (count * 2) doubled (subst (λ e. r' ≡ power g (e % N) ((s ⊕ r) % 2 ^ n)) twice by')) ∙ more (count * 2),
     )

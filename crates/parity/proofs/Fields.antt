@@ -1,9 +1,8 @@
 -- Words as fields of the units of a block: a map of the words is a map of the units.
-use Rattle.std.proofs.Common.{◌≡◌, ℕ, zero, suc, ◌+◌, ◌-◌, ◌*◌, ◌/◌, ◌%◌, ◌^◌, ◌<◌, ◌≤◌, ◌≢◌, ◌⊎◌, List, length, get_or, set, sym, refl, ap, ◌∙◌, subst, inl, inr, ⊎_elim, mod-eq_of_lt, mul_assoc, one-mul, zero-mul, arith, lit<, length-set, get_or-set_other, get_or-set_same}
+use Rattle.std.proofs.Common.{◌≡◌, ℕ, zero, suc, ◌+◌, ◌-◌, ◌*◌, ◌/◌, ◌%◌, ◌^◌, ◌<◌, ◌≤◌, ◌≢◌, ◌⊎◌, List, length, get_or, sym, refl, ap, ◌∙◌, subst, inl, inr, ⊎_elim, mod-eq_of_lt, mul_assoc, mul-one, one-mul, zero-mul, arith, lit<}
 use native.Mathlib.Nat.{div-eq_of_lt, mul-mod_left}
 use lib.Bits.{xor_zero_l, xor_zero_r}
-use Rattle.std.proofs.lemmas.Nat.{mod_below, shr_high, mod_low, pow_pos, pow-add, pow_below, shl-shr, shl_below, shl_whole, one_shl}
-use Rattle.std.proofs.lemmas.List.{get_or_past}
+use Rattle.std.proofs.lemmas.Nat.{mod_below, shr_high, mod_low, pow_pos, pow-add, pow_below, shl-shr, shl_below, shl_whole}
 use Rattle.std.proofs.lemmas.Bool.{cases_lt, cases_eq}
 use Rattle.cyclic.specs.Maps.{◌⊕◌, sum, Linear}
 use Rattle.cyclic.proofs.Sums.{sum_same, sum_sum}
@@ -13,7 +12,7 @@ use Rattle.cyclic.proofs.Units.{agree, fixes_all}
 use Rattle.codes.specs.Blocks.{bit, number, word, FillsBlock, Multiplied}
 use Rattle.codes.specs.Additive.{down, low, after, times, times_below, Additive}
 use Rattle.codes.proofs.Words.{number_same, number_split, bit_below, same_block}
-use Rattle.parity.specs.WordMaps.{combined, Spread, Prepares}
+use Rattle.parity.specs.WordMaps.{combined, Prepares}
 use Rattle.codes.proofs.Words.{number_below, word_below}
 
 -- n bits of a number, from bit s on, are the bits s to s + n - 1
@@ -102,13 +101,13 @@ unit_other b t ne =
 fit : (n b : ℕ) → FillsBlock n → b < 16 → n + (b - b % n) ≤ 16
 fit n b fills lt = by_width (λ m. m + (b - b % m) ≤ 16) (omega arith) (omega arith) (omega arith) (omega arith) n fills
 
-pub shifted : (n : ℕ) → FillsBlock n → (v b : ℕ) → b < 16 → v < 2 ^ n → v * 2 ^ (b - b % n) % 2 ^ 16 ≡ v * 2 ^ (b - b % n)
+shifted : (n : ℕ) → FillsBlock n → (v b : ℕ) → b < 16 → v < 2 ^ n → v * 2 ^ (b - b % n) % 2 ^ 16 ≡ v * 2 ^ (b - b % n)
 shifted n fills v b lt small = shl_whole v n (b - b % n) 16 small (fit n b fills lt)
 
 within : (n : ℕ) → FillsBlock n → (v b : ℕ) → b < 16 → v < 2 ^ n → v * 2 ^ (b - b % n) < 2 ^ 16
 within n fills v b lt small = subst (λ x. x < 2 ^ 16) (shifted n fills v b lt small) (mod_below (v * 2 ^ (b - b % n)) (2 ^ 16) (pow_pos 16))
 
-pub positive : (n : ℕ) → FillsBlock n → 0 < n
+positive : (n : ℕ) → FillsBlock n → 0 < n
 positive n fills = by_width (λ m. 0 < m) (lit< tt) (lit< tt) (lit< tt) (lit< tt) n fills
 
 -- the n bits of a number from bit s on
@@ -230,49 +229,35 @@ module _ (images : List ℕ) where
       plain : (FillsBlock n → ⊥) → Linear 16 (combined images)
       plain no_words = combined_linear (λ b lt. subst (λ v. v < 2 ^ 16) (sym (ready.spread.other no_words b lt)) (pow_below b 16 lt))
 
--- one more entry of a list that is filled from the front
-pub filled_more : (long : ℕ) (xs : List ℕ) (m v : ℕ) (h : ℕ → ℕ) → length xs ≡ long → m < long → ((k : ℕ) → k < m → get_or xs k 0 ≡ h k) → v ≡ h m
-    → (length (set xs m v) ≡ long) × ((k : ℕ) → k < m + 1 → get_or (set xs m v) k 0 ≡ h k)
-filled_more long xs m v h len lt so_far here = (
-  length-set xs m v ∙ len,
-  λ k below.
-      ⊎_elim (λ e. subst (λ i. get_or (set xs m v) i 0 ≡ h i) (sym e) (get_or-set_same xs m v 0 (omega (arith, len)) ∙ here))
-      (λ ne. get_or-set_other xs m k v 0 ne ∙ so_far k (omega arith)) (cases_eq k m),
-)
+-- The first n images are those of the unit words, and the others the same again, n bits further up.
+module _ (n : ℕ) (f : ℕ → ℕ) (lin : Linear n f) (fills : FillsBlock n) (images : List ℕ) (first : (t : ℕ) → t < n → get_or images t 0 ≡ f (2 ^ t))
+    (again : (b : ℕ) → n ≤ b → b < 16 → get_or images b 0 ≡ get_or images (b - n) 0 * 2 ^ n % 2 ^ 16) where
+  field : (fuel b : ℕ) → b < fuel → b < 16 → get_or images b 0 ≡ f (2 ^ (b % n)) * 2 ^ (b - b % n)
+  field zero b less lt = absurd (omega arith)
+  field (suc fuel) b less lt = ⊎_elim (λ under. lowest under) (λ high. higher high (field fuel (b - n) (omega (arith, positive n fills)) (omega arith))) (cases_lt b n)
+    where
+      lowest : b < n → get_or images b 0 ≡ f (2 ^ (b % n)) * 2 ^ (b - b % n)
+      lowest under =
+          let same : b % n ≡ b = mod-eq_of_lt under in
+          let down : b - b % n ≡ 0 = omega arith in
+          first b under ∙ ap (λ k. f (2 ^ k)) (sym same) ∙ sym (mul-one (f (2 ^ (b % n)))) ∙ ap (λ k. f (2 ^ (b % n)) * 2 ^ k) (sym down)
 
--- the unit word 2 ^ t, as the code makes it
-pub unit_word : (t n : ℕ) → t < n → n ≤ 16 → 1 * 2 ^ t % 2 ^ 16 ≡ 2 ^ t
-unit_word t n lt le = one_shl t 16 (omega arith)
+      higher : n ≤ b → get_or images (b - n) 0 ≡ f (2 ^ ((b - n) % n)) * 2 ^ (b - n - (b - n) % n)
+          → get_or images b 0 ≡ f (2 ^ (b % n)) * 2 ^ (b - b % n)
+      higher high one_down =
+          let v : ℕ = f (2 ^ ((b - n) % n)) in
+          let p : ℕ = b - n - (b - n) % n in
+          let same : (b - n) % n ≡ b % n = by_width (λ m. m ≤ b → (b - m) % m ≡ b % m) (λ h. omega arith) (λ h. omega arith) (λ h. omega arith) (λ h. omega arith) n fills high in
+          let place : p + n ≡ b - b % n = omega (arith, mod_le (b - n)) in
+          again b high lt
+          ∙ ap (λ x. x * 2 ^ n % 2 ^ 16) one_down
+          ∙ ap (λ x. x % 2 ^ 16) (mul_assoc v (2 ^ p) (2 ^ n) ∙ ap (λ x. v * x) (sym (pow-add 2 p n)))
+          ∙ ap (λ k. v * 2 ^ k % 2 ^ 16) place
+          ∙ ap (λ k. f (2 ^ k) * 2 ^ (b - b % n) % 2 ^ 16) same
+          ∙ shifted n fills (f (2 ^ (b % n))) b lt (lin.words (2 ^ (b % n)) (pow_below (b % n) n (mod_below b n (positive n fills))))
+        where
+          mod_le : (a : ℕ) → a % n ≤ a
+          mod_le a = by_width (λ m. a % m ≤ a) (omega arith) (omega arith) (omega arith) (omega arith) n fills
 
--- the images of the unit words, in `units`, are those of the linear map f
-module _ (n : ℕ) (f : ℕ → ℕ) (lin : Linear n f) (width : ℕ) (is : width ≡ n) (units : List ℕ) (m : ℕ) (end : width ≤ m)
-    (all : (k : ℕ) → k < m → get_or units k 0 ≡ f (2 ^ k)) where
-  pub units_fit : (t : ℕ) → t < width → get_or units t 0 < 2 ^ width
-  units_fit t lt =
-      let below : t < n = omega arith in
-      subst (λ v. v < 2 ^ width) (sym (all t (omega arith))) (subst (λ w. f (2 ^ t) < 2 ^ w) (sym is) (lin.words (2 ^ t) (pow_below t n below)))
-
-  pub prepared : (images : List ℕ) → Spread width (λ t. get_or units t 0) images → Prepares n f images
-  prepared images spread =
-      record {
-        linear = lin;
-        spread = subst (λ w. Spread w (λ t. f (2 ^ t)) images) is
-            record {
-              fields = λ fills b lt.
-                  let inside : b % width < width = mod_below b width (positive width fills) in
-                  spread.fields fills b lt ∙ ap (λ v. v * 2 ^ (b - b % width)) (all (b % width) (omega arith));
-              other = spread.other;
-            };
-      }
-
--- a list whose entries are below a bound, with one more such entry
-pub set_below : (m : ℕ) (xs : List ℕ) (i v : ℕ) → v < m → ((k : ℕ) → get_or xs k 0 < m) → (k : ℕ) → get_or (set xs i v) k 0 < m
-set_below m xs i v lt all k =
-    ⊎_elim
-    (λ e.
-    ⊎_elim (λ inside. subst (λ x. x < m) (sym (ap (λ j. get_or (set xs i v) j 0) e ∙ get_or-set_same xs i v 0 inside)) lt)
-    (λ past.
-    subst (λ x. x < m) (sym (get_or_past (set xs i v) k 0 (omega (arith, length-set xs i v))))
-    (subst (λ x. x < m) (get_or_past xs k 0 (omega arith)) (all k)))
-    (cases_lt i (length xs)))
-    (λ ne. subst (λ x. x < m) (sym (get_or-set_other xs i k v 0 ne)) (all k)) (cases_eq k i)
+  pub prepared : Prepares n f images
+  prepared = record { linear = lin; spread = record { fields = λ _ b lt. field (b + 1) b (omega arith) lt; other = λ none. absurd (none fills) } }

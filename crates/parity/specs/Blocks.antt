@@ -1,12 +1,8 @@
 -- Sums of blocks.
-use Rattle.std.specs.Prelude.{◌≡◌, ℕ, ◌<◌, List, length, replicate, slice_index, slice_index_or}
+use Rattle.std.specs.Prelude.{◌≡◌, ℕ, List, replicate, slice_index, slice_index_or}
+pub use Rattle.blocks.specs.Blocks.{IsBlock}
 use Rattle.cyclic.specs.Maps.{◌⊕◌}
 use Rattle.codes.specs.Blocks.{word}
-
--- 512 bytes
-pub record IsBlock (block : List ℕ) : Type 0 where
-  pub long : length block ≡ 512
-  pub bytes : (k : ℕ) → slice_index block k < 256
 
 -- Each byte after is the byte before plus the block's byte, and so is each word, at every width.
 pub record Added (before block after : List ℕ) : Type 0 where

@@ -1,13 +1,13 @@
 ghost use Rattle.parity.specs.Blocks.{Added};
 
-// What a drive holds under one number.
-pub type Block = [u8; 512];
+use blocks::Block;
 
 // Adds a block to a sum: bitwise exclusive or.
 pub fn add(sum: &mut Block, block: &Block)
     ensures { Added sum.old block.now sum.new }
 {
-    for i in 0..512 {
-        sum[i] ^= block[i];
+    // not `sum.iter_mut().zip(block)`: of what is written through an adapter of `iter_mut` a proof knows nothing
+    for (k, byte) in block.iter().enumerate() {
+        sum[k] ^= *byte;
     }
 }

@@ -6,7 +6,8 @@ mod encoding;
 mod sums;
 mod word_map;
 
-pub use block::{Block, add};
+pub use block::add;
+pub use blocks::Block;
 pub use encoding::{encode, fits};
 pub use sums::Sums;
 pub use word_map::{WordMap, fills_block};

@@ -2,7 +2,8 @@ ghost use Rattle.std.specs.Prelude.{◌≡◌};
 ghost use Rattle.parity.specs.Blocks.{Zero};
 ghost use Rattle.parity.specs.Sums.{Absorbed, Skipped};
 
-use crate::block::{Block, add};
+use crate::block::add;
+use blocks::{BLOCK_SIZE, Block};
 use codes::Code;
 
 // The two sums over the columns of a stripe that have gone by, from the highest down: p of their words, and q of their words' images,
@@ -20,8 +21,8 @@ impl Sums {
         ensures q { Zero result.q }
     {
         Sums {
-            p: [0; 512],
-            q: [0; 512],
+            p: [0; BLOCK_SIZE],
+            q: [0; BLOCK_SIZE],
         }
     }
 

@@ -9,7 +9,25 @@ ghost use Rattle.cyclic.specs.Theorems.{undo};
 ghost use Rattle.parity.specs.Encoding.{Encoded};
 
 use codes::{ByteCode, Code, ShiftCode};
-use parity::{WordMap, encode};
+use parity::{Block, WordMap, encode};
+
+// Ten columns of data.
+type Columns = [u8; 5120];
+
+// Fills P and Q.
+fn encodes<C: Code>(code: &C, columns: &Columns, p: &mut Block, q: &mut Block) -> bool
+    ensures { MatchBool result (Encoded (C.Code.bits code.now) (C.Code.period code.now) (C.Code.map code.now) 10 columns.now p.old q.old p.new q.new) ((p.new ≡ p.old) × (q.new ≡ q.old)) }
+{
+    encode(code, 10, columns, p, q).is_ok()
+}
+
+// A power and the map that undoes 1 + g^z, prepared and applied to a block.
+fn maps<C: Code>(code: &C, z: u8, block: &mut Block)
+    ensures { (mid : List ℕ) × Multiplied (C.Code.bits code.now) (power (C.Code.map code.now) ((255 - z) % C.Code.period code.now)) block.old mid × Multiplied (C.Code.bits code.now) (undo (C.Code.period code.now) (C.Code.map code.now) z) mid block.new }
+{
+    WordMap::power(code, 255 - u32::from(z)).apply(block);
+    WordMap::undo(code, z).apply(block);
+}
 
 #[unsafe(no_mangle)]
 pub extern "C" fn rotyague_encode_byte(
@@ -19,10 +37,7 @@ pub extern "C" fn rotyague_encode_byte(
 ) -> bool
     ensures { MatchBool result (Encoded 8 255 double 10 «data».now p.old q.old p.new q.new) ((p.new ≡ p.old) × (q.new ≡ q.old)) }
 {
-    match encode(&ByteCode, 10, data, p, q) {
-        Ok(()) => true,
-        Err(_) => false,
-    }
+    encodes(&ByteCode, data, p, q)
 }
 
 #[unsafe(no_mangle)]
@@ -33,25 +48,19 @@ pub extern "C" fn rotyague_encode_shift(
 ) -> bool
     ensures { MatchBool result (Encoded 16 17 shift 10 «data».now p.old q.old p.new q.new) ((p.new ≡ p.old) × (q.new ≡ q.old)) }
 {
-    match encode(&ShiftCode, 10, data, p, q) {
-        Ok(()) => true,
-        Err(_) => false,
-    }
+    encodes(&ShiftCode, data, p, q)
 }
 
-// A power and the map that undoes 1 + g^z, prepared and applied to a block.
 #[unsafe(no_mangle)]
 pub extern "C" fn rotyague_maps_byte(z: u8, block: &mut [u8; 512])
     ensures { (mid : List ℕ) × Multiplied 8 (power double ((255 - z) % 255)) block.old mid × Multiplied 8 (undo 255 double z) mid block.new }
 {
-    WordMap::power(&ByteCode, 255 - z as u32).apply(block);
-    WordMap::undo(&ByteCode, z).apply(block);
+    maps(&ByteCode, z, block);
 }
 
 #[unsafe(no_mangle)]
 pub extern "C" fn rotyague_maps_shift(z: u8, block: &mut [u8; 512])
     ensures { (mid : List ℕ) × Multiplied 16 (power shift ((255 - z) % 17)) block.old mid × Multiplied 16 (undo 17 shift z) mid block.new }
 {
-    WordMap::power(&ShiftCode, 255 - z as u32).apply(block);
-    WordMap::undo(&ShiftCode, z).apply(block);
+    maps(&ShiftCode, z, block);
 }

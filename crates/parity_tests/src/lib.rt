@@ -10,29 +10,22 @@ mod tests {
     use codes::{ByteCode, Code, MatrixCode, ShiftCode};
     use generator::record::Generator;
     use parity::{Block, WordMap, add, encode};
+    use refusals::Refusal;
     use std::process::Abort;
     use std::test::Fail;
+    use test_bytes::fill;
 
-    // The data that vectors/README.md describes.
-    fn fill(seed: u32, data: &mut [u8]) {
-        let mut state = seed;
-        for byte in data.iter_mut() {
-            state = state.wrapping_mul(1103515245).wrapping_add(12345);
-            *byte = (state >> 16 & 0xff) as u8;
-        }
-    }
-
-    // P and Q of k columns of such data are those of the other program.
+    // P and Q of k columns of the data that vectors/README.md describes are those of the other program.
     fn agrees(rt: &impl Abort, k: u8, p_there: &Block, q_there: &Block) -> Result<(), Fail> {
         if k > 10 {
             return Err(Fail::new("no vector has so many columns"));
         }
-        let size = k as usize * 512;
+        let size = usize::from(k) * 512;
         let mut data = [0; 5120];
-        fill(k as u32, &mut data);
+        fill(u32::from(k), &mut data);
         let mut p = [0; 512];
         let mut q = [0; 512];
-        encode(&ByteCode, k, &data[0..size], &mut p, &mut q)?;
+        encode(&ByteCode, k, &data[..size], &mut p, &mut q)?;
         assert!(rt; p == *p_there, "P of K = {k}");
         assert!(rt; q == *q_there, "Q of K = {k}");
         Ok(())
@@ -99,79 +92,121 @@ mod tests {
         Ok(())
     }
 
-    // What a call answers with so many columns and buffers of so many bytes: 0 if it is accepted, or the refusal's number. Refused, it leaves
-    // P and Q alone.
-    fn answer<C: Code>(
-        rt: &impl Abort,
-        code: &C,
-        k: u8,
+    // A call with so many columns and buffers of so many bytes.
+    #[derive(Clone, Copy)]
+    struct Call {
+        columns: u8,
         data_size: usize,
         p_size: usize,
         q_size: usize,
-    ) -> Result<u8, Fail> {
-        let data = [0; 16384];
-        let mut p = [0xa5; 513];
-        let mut q = [0xa5; 513];
-        if data_size > 16384 || p_size > 513 || q_size > 513 {
-            return Err(Fail::new("no buffer is as large"));
+    }
+
+    impl Call {
+        // The buffers have the sizes that so many columns take.
+        fn fitting(columns: u8) -> Call {
+            Call {
+                columns,
+                data_size: usize::from(columns) * 512,
+                p_size: 512,
+                q_size: 512,
+            }
         }
-        let answer = match encode(
-            code,
-            k,
-            &data[0..data_size],
-            &mut p[0..p_size],
-            &mut q[0..q_size],
-        ) {
-            Ok(()) => 0,
-            Err(refusal) => refusal.number(),
-        };
-        if answer != 0 {
-            assert!(rt; p == [0xa5; 513], "P changed");
-            assert!(rt; q == [0xa5; 513], "Q changed");
+
+        // What it answers. Refused, it leaves P and Q alone.
+        fn answer<C: Code>(self, rt: &impl Abort, code: &C) -> Result<Result<(), Refusal>, Fail> {
+            let Call {
+                columns,
+                data_size,
+                p_size,
+                q_size,
+            } = self;
+            let data = [0; 16384];
+            let mut p = [0xa5; 513];
+            let mut q = [0xa5; 513];
+            if data_size > 16384 || p_size > 513 || q_size > 513 {
+                return Err(Fail::new("no buffer is as large"));
+            }
+            let answer = encode(
+                code,
+                columns,
+                &data[..data_size],
+                &mut p[..p_size],
+                &mut q[..q_size],
+            );
+            if answer.is_err() {
+                assert!(rt; p == [0xa5; 513], "P changed");
+                assert!(rt; q == [0xa5; 513], "Q changed");
+            }
+            Ok(answer)
         }
-        Ok(answer)
     }
 
     #[test]
     fn columns(rt: HostRuntime) -> Result<(), Fail> {
         let matrix = MatrixCode::new(Generator::fresh());
+        let unfit = Err(Refusal::DoesNotFit);
+        assert_eq!(rt; Refusal::DoesNotFit.number(), 12);
         // no data, and more than 32 drives, whatever the buffers are
-        assert_eq!(rt; answer(&rt, &ByteCode, 0, 0, 512, 512)?, 12);
-        assert_eq!(rt; answer(&rt, &ByteCode, 0, 1, 1, 512)?, 12);
-        assert_eq!(rt; answer(&rt, &ByteCode, 31, 31 * 512, 512, 512)?, 12);
-        assert_eq!(rt; answer(&rt, &ByteCode, 255, 512, 512, 512)?, 12);
+        assert_eq!(rt; Call::fitting(0).answer(&rt, &ByteCode)?, unfit);
+        let call = Call {
+            data_size: 1,
+            p_size: 1,
+            ..Call::fitting(0)
+        };
+        assert_eq!(rt; call.answer(&rt, &ByteCode)?, unfit);
+        assert_eq!(rt; Call::fitting(31).answer(&rt, &ByteCode)?, unfit);
+        let call = Call {
+            data_size: 512,
+            ..Call::fitting(255)
+        };
+        assert_eq!(rt; call.answer(&rt, &ByteCode)?, unfit);
         // more columns than the order
-        assert_eq!(rt; answer(&rt, &matrix, 4, 4 * 512, 512, 512)?, 12);
-        assert_eq!(rt; answer(&rt, &ShiftCode, 18, 18 * 512, 512, 512)?, 12);
+        assert_eq!(rt; Call::fitting(4).answer(&rt, &matrix)?, unfit);
+        assert_eq!(rt; Call::fitting(18).answer(&rt, &ShiftCode)?, unfit);
         // the most and the fewest
-        assert_eq!(rt; answer(&rt, &matrix, 3, 3 * 512, 512, 512)?, 0);
-        assert_eq!(rt; answer(&rt, &ShiftCode, 17, 17 * 512, 512, 512)?, 0);
-        assert_eq!(rt; answer(&rt, &ByteCode, 30, 30 * 512, 512, 512)?, 0);
-        assert_eq!(rt; answer(&rt, &ByteCode, 1, 512, 512, 512)?, 0);
+        assert_eq!(rt; Call::fitting(3).answer(&rt, &matrix)?, Ok(()));
+        assert_eq!(rt; Call::fitting(17).answer(&rt, &ShiftCode)?, Ok(()));
+        assert_eq!(rt; Call::fitting(30).answer(&rt, &ByteCode)?, Ok(()));
+        assert_eq!(rt; Call::fitting(1).answer(&rt, &ByteCode)?, Ok(()));
         Ok(())
     }
 
     #[test]
     fn buffers(rt: HostRuntime) -> Result<(), Fail> {
-        assert_eq!(rt; answer(&rt, &ByteCode, 2, 1023, 512, 512)?, 9);
-        assert_eq!(rt; answer(&rt, &ByteCode, 2, 1025, 512, 512)?, 9);
-        assert_eq!(rt; answer(&rt, &ByteCode, 2, 1024, 511, 512)?, 9);
-        assert_eq!(rt; answer(&rt, &ByteCode, 2, 1024, 513, 512)?, 9);
-        assert_eq!(rt; answer(&rt, &ByteCode, 2, 1024, 512, 511)?, 9);
-        assert_eq!(rt; answer(&rt, &ByteCode, 2, 1024, 512, 513)?, 9);
+        assert_eq!(rt; Refusal::BufferSize.number(), 9);
+        for (data_size, p_size, q_size) in [
+            (1023, 512, 512),
+            (1025, 512, 512),
+            (1024, 511, 512),
+            (1024, 513, 512),
+            (1024, 512, 511),
+            (1024, 512, 513),
+        ] {
+            let call = Call {
+                columns: 2,
+                data_size,
+                p_size,
+                q_size,
+            };
+            assert_eq!(rt;
+                call.answer(&rt, &ByteCode)?,
+                Err(Refusal::BufferSize),
+                "{data_size} bytes of data, {p_size} of P, {q_size} of Q"
+            );
+        }
         Ok(())
     }
 
     // A power is as many multiplications, and what undoes 1 + g^z gives the block back.
     fn maps<C: Code>(rt: &impl Abort, code: &C, z: u8) {
         let mut block = [0; 512];
-        fill(z as u32, &mut block);
+        fill(u32::from(z), &mut block);
         let mut by_steps = block;
         for _ in 0..z {
             code.multiply_block(&mut by_steps);
         }
         let mut powered = block;
-        WordMap::power(code, z as u32).apply(&mut powered);
+        WordMap::power(code, u32::from(z)).apply(&mut powered);
         assert!(rt; powered == by_steps, "power");
         add(&mut powered, &block);
         WordMap::undo(code, z).apply(&mut powered);

@@ -5,8 +5,8 @@ use Rattle.codes.specs.Additive.{times_below}
 use Rattle.parity.specs.WordMaps.{combined_byte}
 use Rattle.parity.proofs.word_map.byte_image.Goals as goal
 
-pub overflow_mul-image : goal.overflow_mul-image
-overflow_mul-image c =
+pub overflow_mul-sum : goal.overflow_mul-sum
+overflow_mul-sum c =
     let v : ℕ = c.args.byte / 2 ^ c.loop-b.b in
     let i : ℕ = get_or c.args.images.now c.loop-b.b 0 in
     let small : i < 2 ^ 8 = omega arith in

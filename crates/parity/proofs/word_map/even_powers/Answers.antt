@@ -5,11 +5,12 @@ use Rattle.parity.proofs.word_map.even_powers.Goals as goal
 
 pub overflow_mul-count : goal.overflow_mul-count
 overflow_mul-count g c =
-    let terms : ℕ = (c.order.result - 1) / 2 + 1 in
+    let terms : ℕ = (c.from.result - 1) / 2 + 1 in
     let few : c.loop-place.count ≤ 128 =
     omega (arith, c.loop-place.invariant.0, shr_le terms c.loop-place.place, c.order.ensures, (g.met.C.Code.turns c.args.code.now).1) in
-    let small : 2 * c.args.z ≤ 510 = omega arith in
-    record { fits = omega (arith, mul-le c.loop-place.count (2 * c.args.z) 128 510 few small) }
+    let step : ℕ = 2 * c.from-step.result in
+    let small : step ≤ 510 = omega arith in
+    record { fits = omega (arith, mul-le c.loop-place.count step 128 510 few small) }
 
 pub loop-place-preserved : goal.loop-place-preserved
 loop-place-preserved g c =
@@ -17,7 +18,7 @@ loop-place-preserved g c =
     let self = c.args.code.now in
     let law = g.met.C.Code.lawful self in
     clear (code.bits self) (code.period self) (code.map self) law.linear law.returns c.args.z c.args.word c.requires
-    ((c.order.result - 1) / 2 + 1) c.loop-place.place c.loop-place.count c.loop-place.sum c.multiply-sum.result
+    (2 * c.from-step.result) (omega arith) ((c.from.result - 1) / 2 + 1) c.loop-place.place c.loop-place.count c.loop-place.sum c.multiply-sum.result
     c.loop-place-test.true c.loop-place.invariant.0 c.loop-place.invariant.1 c.multiply-sum.ensures c.if-terms-place-eq1.false
 
 pub loop-place-preserved-then-terms-place-eq1 : goal.loop-place-preserved-then-terms-place-eq1
@@ -26,6 +27,6 @@ loop-place-preserved-then-terms-place-eq1 g c =
     let self = c.args.code.now in
     let law = g.met.C.Code.lawful self in
     set (code.bits self) (code.period self) (code.map self) law.linear law.returns c.args.z c.args.word c.requires
-    ((c.order.result - 1) / 2 + 1) c.loop-place.place c.loop-place.count c.loop-place.sum c.multiply-sum.result
+    (2 * c.from-step.result) (omega arith) ((c.from.result - 1) / 2 + 1) c.loop-place.place c.loop-place.count c.loop-place.sum c.multiply-sum.result
     c.loop-place-test.true c.loop-place.invariant.0 c.loop-place.invariant.1 c.multiply-sum.ensures
     c.multiply.result c.multiply.ensures c.if-terms-place-eq1.true

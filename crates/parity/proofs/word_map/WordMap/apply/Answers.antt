@@ -1,4 +1,6 @@
-use Rattle.std.proofs.Common.{ℕ, ◌<◌, List, get_or}
+use Rattle.std.proofs.Common.{rules, ◌≡◌, ℕ, ◌<◌, List, get_or}
+use Rattle.codes.specs.Blocks.{word}
+use Rattle.parity.specs.WordMaps.{combined}
 use Rattle.parity.proofs.Bytes.{bytes_below, bytes_units}
 use Rattle.parity.proofs.Fields.{units_all}
 use Rattle.parity.proofs.word_map.WordMap.apply.Goals as goal
@@ -15,5 +17,11 @@ returns-in-Some c n f ready =
 
 pub returns-in-None : goal.returns-in-None
 returns-in-None c n f ready =
-    units_all c.args.self.now.images n f ready c.args.block.now c.apply_units.new.block c.told-block c.apply_units.array_long
-    c.fits-block c.apply_units.ensures.bytes c.apply_units.ensures.units
+    let images : List ℕ = c.args.self.now.images in
+    let before : List ℕ = c.args.block.now in
+    let after : List ℕ = c.map_words.new.block in
+    units_all images n f ready before after c.told-block c.map_words.array_long c.fits-block c.map_words.ensures.bytes
+    (λ u lt.
+    let called = c.map_words.ensures.words u lt in
+    let image : word 16 after u ≡ combined images (word 16 before u) = search rules in
+    image)

@@ -5,8 +5,8 @@ use Rattle.codes.specs.Additive.{times_below}
 use Rattle.parity.specs.WordMaps.{combined}
 use Rattle.parity.proofs.word_map.WordMap.image.Goals as goal
 
-pub overflow_mul-image : goal.overflow_mul-image
-overflow_mul-image c =
+pub overflow_mul-sum : goal.overflow_mul-sum
+overflow_mul-sum c =
     let v : ℕ = c.args.unit / 2 ^ c.loop-b.b in
     let i : ℕ = get_or c.args.self.now.images c.loop-b.b 0 in
     let small : i < 2 ^ 16 = omega arith in
