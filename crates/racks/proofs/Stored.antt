@@ -1,6 +1,5 @@
 -- What a write of a block leaves in a flat memory.
 use Rattle.std.proofs.Common.{◌≡◌, ℕ, ◌+◌, ◌-◌, ◌*◌, ◌/◌, ◌%◌, ◌<◌, ◌≤◌, List, ◌++◌, length, take, drop, sym, refl, ap, ◌∙◌, inl, inr, arith}
-use borrow.Rule.Slice.PartMut.{put_mid}
 use Rattle.std.proofs.lemmas.List.{length-drop, length-append, length-take-le, take_at, drop_at, take-append-le, drop-append-le, drop-drop, take-take}
 use Rattle.std.proofs.lemmas.Slice.{between_is}
 use Rattle.std.proofs.lemmas.Bool.{cases_order}
@@ -69,11 +68,6 @@ block_other D B m buf d b k j holds size hd hb hk hj ne =
       ]
     ]
 
--- A flat rack's memory after `copy_from_slice` into the part that begins at `at`.
-pub stored : (m buf : List ℕ) (at size : ℕ) → size ≡ 512 → put_mid at size m buf ≡ stored_at m at buf
-stored m buf at size is =
-    ap (λ k. put_mid at k m buf) is ∙ ap (λ t. take at m ++ (buf ++ t)) (drop-drop 512 at m)
-
 -- A write to the memory of a flat rack is the write of a rack.
 pub flat_written : (D B : ℕ) (m m' buf : List ℕ) (s : ℕ → DriveState) (d b : ℕ) →
     Lawful (drives_of D B (length m)) (blocks_of D B (length m)) d b (length buf) → s d ≡ Live →
@@ -105,7 +99,3 @@ flat_written D B m m' buf s d b ok live em =
         };
       };
     }
-
--- What `place` tells of a layout with a rack's sizes, it tells of the rack.
-pub lawful_of : (D B D' B' d b n : ℕ) → D ≡ D' → B ≡ B' → Lawful D B d b n → Lawful D' B' d b n
-lawful_of D B D' B' d b n eD eB ok = record { drive = omega (arith, ok.drive); block = omega (arith, ok.block); size = ok.size }

@@ -1,11 +1,11 @@
 -- What the layers above a rack use of its answers.
-use Rattle.std.proofs.Common.{◌≡◌, ℕ, ◌⊎◌, List, Ok, Err, Result, sym, refl, ◌∙◌, inl, inr, arith}
+use Rattle.std.proofs.Common.{◌≡◌, ℕ, ◌⊎◌, sym, refl, ◌∙◌, inl, inr, arith}
 use Rattle.refusals.specs.declared.Refusal.{Refusal}
 use Rattle.refusals.specs.declared.Refusal.TheVariants.{NotLive}
 use Rattle.racks.specs.declared.DriveState.{DriveState}
 use Rattle.racks.specs.declared.DriveState.TheVariants.{Live, Failed}
 use Rattle.racks.specs.Meaning.{Meaning, SameDrive, SameBut, Same}
-use Rattle.racks.specs.Calls.{Lawful, no_drive, no_block, buffer_size, Fails, Refused, unlawful, not_live, fails, ReadAnswer, WriteAnswer, FitRefused, FitAnswer, PullAnswer}
+use Rattle.racks.specs.Calls.{Lawful, no_drive, no_block, buffer_size, Fails, Refused, unlawful, not_live, fails}
 
 pub drive_refl : (m : Meaning) (d : ℕ) → SameDrive m m d
 drive_refl m d = record { state = refl; contents = λ _ b _. refl }
@@ -63,40 +63,3 @@ refused_lawful m d b n e m' ok (fails is _ now) = record {
   rest = now.rest;
   how = inr now;
 }
-
--- No call changes a rack's sizes.
-pub record SameSize (m m' : Meaning) : Type 0 where
-  pub drives : m'.drives ≡ m.drives
-  pub blocks : m'.blocks ≡ m.blocks
-
-size_same : (m m' : Meaning) → Same m m' → SameSize m m'
-size_same m m' s = record { drives = s.drives; blocks = s.blocks }
-
-size_but : (d : ℕ) (m m' : Meaning) → SameBut d m m' → SameSize m m'
-size_but d m m' s = record { drives = s.drives; blocks = s.blocks }
-
-pub size_refused : (m : Meaning) (d b n : ℕ) (e : Refusal) (m' : Meaning) → Refused m d b n e m' → SameSize m m'
-size_refused m d b n e m' (unlawful _ s) = size_same m m' s
-size_refused m d b n e m' (not_live _ _ _ s) = size_same m m' s
-size_refused m d b n e m' (fails _ _ now) = size_but d m m' now.rest
-
-pub size_read : (m : Meaning) (d b : ℕ) (buf : List ℕ) (r : Result Unit Refusal) (m' : Meaning) (buf' : List ℕ) → ReadAnswer m d b buf r m' buf' → SameSize m m'
-size_read m d b buf (Ok _) m' buf' a = size_same m m' a.same
-size_read m d b buf (Err e) m' buf' a = size_refused m d b _ e m' a.1
-
-pub size_write : (m : Meaning) (d b : ℕ) (buf : List ℕ) (r : Result Unit Refusal) (m' : Meaning) → WriteAnswer m d b buf r m' → SameSize m m'
-size_write m d b buf (Ok _) m' a = size_but d m m' a.rest
-size_write m d b buf (Err e) m' a = size_refused m d b _ e m' a
-
-size_fit_refused : (m : Meaning) (d : ℕ) (e : Refusal) (m' : Meaning) → FitRefused m d e m' → SameSize m m'
-size_fit_refused m d e m' (FitRefused.no_drive _ _ s) = size_same m m' s
-size_fit_refused m d e m' (FitRefused.drive_live _ _ _ s) = size_same m m' s
-size_fit_refused m d e m' (FitRefused.fails _ _ _ _ s) = size_but d m m' s
-
-pub size_fit : (m : Meaning) (d : ℕ) (r : Result Unit Refusal) (m' : Meaning) → FitAnswer m d r m' → SameSize m m'
-size_fit m d (Ok _) m' a = size_but d m m' a.rest
-size_fit m d (Err e) m' a = size_fit_refused m d e m' a
-
-pub size_pull : (m : Meaning) (d : ℕ) (r : Result Unit Refusal) (m' : Meaning) → PullAnswer m d r m' → SameSize m m'
-size_pull m d (Ok _) m' a = size_but d m m' a.rest
-size_pull m d (Err e) m' a = size_same m m' a.same

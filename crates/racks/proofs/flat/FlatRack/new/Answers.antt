@@ -1,4 +1,4 @@
-use Rattle.std.proofs.Common.{◌≡◌, ℕ, get_or, replicate, refl, inl, inr, arith}
+use Rattle.std.proofs.Common.{◌≡◌, ℕ, get_or, replicate, inl, inr, arith}
 use Rattle.std.proofs.lemmas.List.{get_or-replicate, get_or_past, length-replicate}
 use Rattle.std.proofs.lemmas.Bool.{cases_lt}
 use Rattle.racks.specs.declared.DriveState.TheVariants.{Live}
@@ -10,5 +10,5 @@ all_live n d = elim (cases_lt d n) [
   | inr ge ↦ get_or_past (replicate n Live) d Live (omega (arith, length-replicate n Live))
 ]
 
-pub returns : goal.returns
-returns c = record { drives = refl; blocks = refl; states = all_live 32; memory = refl; lender = refl }
+pub returns-clause-states : goal.returns-clause-states
+returns-clause-states c = all_live 32
