@@ -1,5 +1,7 @@
 -- What the layers above a rack use of its answers.
-use Rattle.std.proofs.Common.{◌≡◌, ℕ, ◌⊎◌, sym, refl, ◌∙◌, inl, inr, arith}
+use Rattle.std.proofs.Common.{◌≡◌, ℕ, ◌⊎◌, get_or, replicate, sym, refl, ◌∙◌, inl, inr, arith}
+use Rattle.std.proofs.lemmas.List.{get_or-replicate, get_or_past, length-replicate}
+use Rattle.std.proofs.lemmas.Bool.{cases_lt}
 use Rattle.refusals.specs.declared.Refusal.{Refusal}
 use Rattle.refusals.specs.declared.Refusal.TheVariants.{NotLive}
 use Rattle.racks.specs.declared.DriveState.{DriveState}
@@ -63,3 +65,10 @@ refused_lawful m d b n e m' ok (fails is _ now) = record {
   rest = now.rest;
   how = inr now;
 }
+
+-- Every entry of a list of equal ones is that one, and so is what stands for an entry behind its end.
+pub all_the_same : {A : Type 0} (n d : ℕ) (x : A) → get_or (replicate n x) d x ≡ x
+all_the_same n d x = elim (cases_lt d n) [
+  | inl lt ↦ get_or-replicate n d x x lt
+  | inr ge ↦ get_or_past (replicate n x) d x (omega (arith, length-replicate n x))
+]

@@ -1,6 +1,6 @@
 // The flat rack: drives that are parts of the caller's memory.
 ghost use Rattle.std.specs.Prelude.{◌≡◌, length};
-ghost use Rattle.racks.specs.Layout.{drives_of, blocks_of};
+ghost use Rattle.racks.specs.Layout.{IsLaidOut, drives_of, blocks_of};
 
 use crate::DriveState;
 use crate::layout::Layout;
@@ -14,9 +14,9 @@ use refusals::Refusal;
 pub struct FlatRack<'a> {
     memory: &'a mut [u8],
     layout: Layout,
+    // `as`, since the length of an array calls no function.
     states: [DriveState; MAX_DRIVES as usize],
-    ghost drives_fit: { drives_of layout.drives layout.blocks (length memory.now) ≡ layout.drives },
-    ghost blocks_fit: { blocks_of layout.drives layout.blocks (length memory.now) ≡ layout.blocks },
+    ghost laid_out: { IsLaidOut layout.drives layout.blocks (length memory.now) },
 }
 
 impl<'a> FlatRack<'a> {
@@ -48,7 +48,7 @@ impl<'a> FlatRack<'a> {
         memory
     }
 
-    // The memory behind a `&`: a read that copies from here changes none of it, as its proof has to see.
+    // The memory behind a `&`, so that the proof of `read` sees that it stays as it is.
     fn bytes(&self) -> &[u8]
         ensures { result.now ≡ memory_of self.now }
     {

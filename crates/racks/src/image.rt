@@ -1,6 +1,6 @@
 // The image rack: the flat layout over bytes that can only be read.
 ghost use Rattle.std.specs.Prelude.{◌≡◌, length};
-ghost use Rattle.racks.specs.Layout.{drives_of, blocks_of};
+ghost use Rattle.racks.specs.Layout.{IsLaidOut, drives_of, blocks_of};
 
 use crate::DriveState;
 use crate::layout::Layout;
@@ -13,8 +13,7 @@ pub struct ImageRack<'a> {
     bytes: &'a [u8],
     layout: Layout,
     pulled: u32,
-    ghost drives_fit: { drives_of layout.drives layout.blocks (length bytes.now) ≡ layout.drives },
-    ghost blocks_fit: { blocks_of layout.drives layout.blocks (length bytes.now) ≡ layout.blocks },
+    ghost laid_out: { IsLaidOut layout.drives layout.blocks (length bytes.now) },
 }
 
 impl<'a> ImageRack<'a> {

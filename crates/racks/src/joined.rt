@@ -14,6 +14,7 @@ use refusals::Refusal;
 pub struct JoinedRack<A: ReadingRack, B: ReadingRack> {
     first: A,
     second: B,
+    // Found once: in a nest of racks each call would ask all of them again and again.
     agreed: bool,
     ghost found: { agreed ≡ agree (A.meaning first) (B.meaning second) },
 }
@@ -25,7 +26,7 @@ enum Side {
     Second(u8),
 }
 
-// An inner rack's answer, with the number that its drive has here.
+// An inner rack's answer; a fault gets the number that its drive has here.
 fn renumbered<T>(answer: Result<T, Refusal>, drive: u8) -> Result<T, Refusal>
     ensures { (from : ℕ) → Renumbers from drive answer result }
 {

@@ -4,13 +4,15 @@ ghost use Rattle.racks.specs.Layout.{start, block_at, stored_at, drives_of, bloc
 
 use blocks::{BLOCK_SIZE, MAX_BLOCKS, MAX_DRIVES};
 
-// How many drives of how many blocks lie in a row of bytes.
+// How many drives of how many blocks lie in a row of bytes. Each rack says for itself that these fit its bytes, since a ghost field
+// here, in a struct beside a `&mut`, would keep the flat rack from standing for a type parameter of a struct.
 #[derive(Clone, Copy)]
 pub struct Layout {
     pub drives: u8,
     pub blocks: u32,
 }
 
+// A u32 goes into a usize by `as`, since there is no `From` for it.
 impl Layout {
     // The sizes asked for, if they keep within the limits and there are just that many bytes; else none at all.
     pub fn of(drives: u8, blocks: u32, bytes: usize) -> Layout

@@ -11,6 +11,7 @@ use refusals::Refusal;
 pub struct DeadRack {
     drives: u8,
     blocks: u32,
+    // `as`, since the length of an array calls no function.
     pulled: [bool; MAX_DRIVES as usize],
 }
 

@@ -13,6 +13,7 @@ pub struct FailingRack<'a, R: ReadingRack> {
     inner: R,
     at: &'a [u32],
     touches: u32,
+    // `as`, since the length of an array calls no function.
     failed: [bool; MAX_DRIVES as usize],
 }
 
