@@ -1,5 +1,5 @@
 // The flat rack.
-use crate::reading::block;
+use crate::reading::read_block;
 use racks::{DriveState, FlatRack, Rack, ReadingRack};
 use refusals::Refusal;
 use std::test::Fail;
@@ -65,8 +65,8 @@ fn read_after_write(rt: HostRuntime) -> Result<(), Fail> {
     let mut memory = [0; 3072];
     let mut rack = FlatRack::new(&mut memory, 3, 2);
     assert_eq!(rt; rack.write(1, 1, &[7; 512]), Ok(()));
-    assert_eq!(rt; block(&mut rack, 1, 0), Ok([0; 512]));
-    assert_eq!(rt; block(&mut rack, 1, 1), Ok([7; 512]));
+    assert_eq!(rt; read_block(&mut rack, 1, 0), Ok([0; 512]));
+    assert_eq!(rt; read_block(&mut rack, 1, 1), Ok([7; 512]));
     // Block 1 of drive 1 lies from byte 1536 to 2047.
     let memory = rack.into_memory();
     assert_eq!(rt; memory.get(1535).copied(), Some(0));
@@ -87,7 +87,7 @@ fn pull_and_fit(rt: HostRuntime) -> Result<(), Fail> {
     assert_eq!(rt; rack.state(0), Ok(DriveState::Live));
     assert_eq!(rt; rack.fit(1), Ok(()));
     assert_eq!(rt; rack.state(1), Ok(DriveState::Live));
-    assert_eq!(rt; block(&mut rack, 1, 0), Ok([5; 512]));
+    assert_eq!(rt; read_block(&mut rack, 1, 0), Ok([5; 512]));
     assert_eq!(rt; DriveState::Pulled.number(), 2);
     Ok(())
 }

@@ -1,5 +1,5 @@
 // The joined rack, the image rack and the racks to test with.
-use crate::reading::block;
+use crate::reading::read_block;
 use racks::{DriveState, FlatRack, ImageRack, JoinedRack, Rack, ReadingRack};
 use refusals::Refusal;
 use std::test::Fail;
@@ -14,15 +14,18 @@ fn joined_numbers(rt: HostRuntime) -> Result<(), Fail> {
     let mut rack = JoinedRack::new(first, second);
     assert_eq!(rt; rack.drives(), 5);
     assert_eq!(rt; rack.blocks(), 2);
-    assert_eq!(rt; block(&mut rack, 1, 1), Ok([1; 512]));
-    assert_eq!(rt; block(&mut rack, 2, 1), Ok([2; 512]));
+    assert_eq!(rt; read_block(&mut rack, 1, 1), Ok([1; 512]));
+    assert_eq!(rt; read_block(&mut rack, 2, 1), Ok([2; 512]));
     assert_eq!(rt; rack.pull(3), Ok(()));
     assert_eq!(rt;
-        block(&mut rack, 3, 1),
+        read_block(&mut rack, 3, 1),
         Err(Refusal::NotLive { drive: 3, block: 1 })
     );
     assert_eq!(rt; rack.fit(4), Err(Refusal::DriveLive { drive: 4 }));
-    assert_eq!(rt; block(&mut rack, 5, 0), Err(Refusal::NoDrive { drive: 5 }));
+    assert_eq!(rt;
+        read_block(&mut rack, 5, 0),
+        Err(Refusal::NoDrive { drive: 5 })
+    );
     let (_, second) = rack.into_racks();
     assert_eq!(rt; second.state(1), Ok(DriveState::Pulled));
     Ok(())
@@ -71,20 +74,20 @@ fn failures(rt: HostRuntime) -> Result<(), Fail> {
     let mut memory = [4; 3072];
     let inner = FlatRack::new(&mut memory, 3, 2);
     let mut rack = FailingRack::new(inner, &[1, 3]);
-    assert_eq!(rt; block(&mut rack, 0, 0), Ok([4; 512]));
+    assert_eq!(rt; read_block(&mut rack, 0, 0), Ok([4; 512]));
     assert_eq!(rt;
-        block(&mut rack, 1, 0),
+        read_block(&mut rack, 1, 0),
         Err(Refusal::NotLive { drive: 1, block: 0 })
     );
     assert_eq!(rt; rack.state(1), Ok(DriveState::Failed));
     assert_eq!(rt;
-        block(&mut rack, 1, 1),
+        read_block(&mut rack, 1, 1),
         Err(Refusal::NotLive { drive: 1, block: 1 })
     );
     assert_eq!(rt; rack.write(2, 0, &[4; 512]), Ok(()));
     assert_eq!(rt; rack.fit(1), Err(Refusal::NotLive { drive: 1, block: 0 }));
     assert_eq!(rt; rack.fit(1), Ok(()));
-    assert_eq!(rt; block(&mut rack, 1, 1), Ok([4; 512]));
+    assert_eq!(rt; read_block(&mut rack, 1, 1), Ok([4; 512]));
     assert_eq!(rt; rack.touches(), 6);
     Ok(())
 }
@@ -94,7 +97,7 @@ fn dead_from_the_start(rt: HostRuntime) -> Result<(), Fail> {
     let mut rack = DeadRack::new(3, 2);
     assert_eq!(rt; rack.state(0), Ok(DriveState::Failed));
     assert_eq!(rt;
-        block(&mut rack, 0, 1),
+        read_block(&mut rack, 0, 1),
         Err(Refusal::NotLive { drive: 0, block: 1 })
     );
     assert_eq!(rt; rack.pull(0), Ok(()));
@@ -113,13 +116,13 @@ fn nested(rt: HostRuntime) -> Result<(), Fail> {
         DeadRack::new(1, 1),
     );
     assert_eq!(rt; rack.drives(), 4);
-    assert_eq!(rt; block(&mut rack, 2, 0), Ok([4; 512]));
+    assert_eq!(rt; read_block(&mut rack, 2, 0), Ok([4; 512]));
     assert_eq!(rt;
-        block(&mut rack, 2, 0),
+        read_block(&mut rack, 2, 0),
         Err(Refusal::NotLive { drive: 2, block: 0 })
     );
     assert_eq!(rt;
-        block(&mut rack, 3, 0),
+        read_block(&mut rack, 3, 0),
         Err(Refusal::NotLive { drive: 3, block: 0 })
     );
     assert_eq!(rt; rack.fit(2), Ok(()));
