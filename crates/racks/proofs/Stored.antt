@@ -1,13 +1,11 @@
 -- What a write of a block leaves in a flat memory.
 use Rattle.std.proofs.Common.{◌≡◌, ℕ, ◌+◌, ◌-◌, ◌*◌, ◌/◌, ◌%◌, ◌<◌, ◌≤◌, List, ◌++◌, length, take, drop, sym, refl, ap, ◌∙◌, inl, inr, arith}
-use borrow.Rule.Slice.PartMut.{put_mid}
 use Rattle.std.proofs.lemmas.List.{length-drop, length-append, length-take-le, take_at, drop_at, take-append-le, drop-append-le, drop-drop, take-take}
 use Rattle.std.proofs.lemmas.Slice.{between_is}
 use Rattle.std.proofs.lemmas.Bool.{cases_order}
 use Rattle.std.proofs.lemmas.Nat.{div-mul-add, mod-mul-add}
 use Rattle.racks.specs.declared.DriveState.{DriveState}
-use Rattle.racks.specs.declared.DriveState.TheVariants.{Live}
-use Rattle.racks.specs.Calls.{Lawful, Written}
+use Rattle.racks.specs.Calls.{Open, Written}
 use Rattle.racks.specs.Layout.{drives_of, blocks_of, start, block_at, stored_at, flat}
 use Rattle.racks.specs.LayoutSizes.{room, start_within}
 
@@ -69,43 +67,34 @@ block_other D B m buf d b k j holds size hd hb hk hj ne =
       ]
     ]
 
--- A flat rack's memory after `copy_from_slice` into the part that begins at `at`.
-pub stored : (m buf : List ℕ) (at size : ℕ) → size ≡ 512 → put_mid at size m buf ≡ stored_at m at buf
-stored m buf at size is =
-    ap (λ k. put_mid at k m buf) is ∙ ap (λ t. take at m ++ (buf ++ t)) (drop-drop 512 at m)
-
 -- A write to the memory of a flat rack is the write of a rack.
-pub flat_written : (D B : ℕ) (m m' buf : List ℕ) (s : ℕ → DriveState) (d b : ℕ) →
-    Lawful (drives_of D B (length m)) (blocks_of D B (length m)) d b (length buf) → s d ≡ Live →
-    m' ≡ stored_at m (start (blocks_of D B (length m)) d b) buf →
-    Written (flat D B m s) d b buf (flat D B m' s)
-flat_written D B m m' buf s d b ok live em =
+pub flat_written : (D B C : ℕ) (m m' buf : List ℕ) (s : ℕ → DriveState) (d b : ℕ) → Open (flat D B m s) d b (length buf) →
+    blocks_of D B (length m) ≡ C → m' ≡ stored_at m (start C d b) buf → Written (flat D B m s) d b buf (flat D B m' s)
+flat_written D B C m m' buf s d b told fit em =
     let E = drives_of D B (length m) in
-    let C = blocks_of D B (length m) in
-    let C' = blocks_of D B (length m') in
+    let F = blocks_of D B (length m) in
+    let F' = blocks_of D B (length m') in
+    let ok = told.lawful in
     let holds = (room D B (length m)).holds in
-    let within = start_within E C d b (length m) holds ok.drive ok.block in
-    let long : length m' ≡ length m = ap length em ∙ length_stored m buf (start C d b) within ok.size in
-    let eC : C' ≡ C = ap (blocks_of D B) long in
-    let moved : (k j : ℕ) → block_at m' (start C' k j) ≡ block_at (stored_at m (start C d b) buf) (start C k j) =
-    λ k j. ap (λ t. block_at t (start C' k j)) em ∙ ap (λ n. block_at (stored_at m (start C d b) buf) (start n k j)) eC in
-    let other = block_other E C m buf d b in
+    let within = start_within E F d b (length m) holds ok.drive ok.block in
+    let stored : m' ≡ stored_at m (start F d b) buf = em ∙ ap (λ n. stored_at m (start n d b) buf) (sym fit) in
+    let long : length m' ≡ length m = ap length stored ∙ length_stored m buf (start F d b) within ok.size in
+    let eF : F' ≡ F = ap (blocks_of D B) long in
+    let moved : (k j : ℕ) → block_at m' (start F' k j) ≡ block_at (stored_at m (start F d b) buf) (start F k j) =
+    λ k j. ap (λ t. block_at t (start F' k j)) stored ∙ ap (λ n. block_at (stored_at m (start F d b) buf) (start n k j)) eF in
+    let other = block_other E F m buf d b in
     record {
       lawful = ok;
-      live = live;
-      stays = live;
-      stored = moved d b ∙ block_stored m buf (start C d b) within ok.size;
+      live = told.live;
+      stays = told.live;
+      stored = moved d b ∙ block_stored m buf (start F d b) within ok.size;
       kept = λ j hj ne. moved d j ∙ other d j holds ok.size ok.drive ok.block ok.drive hj (λ _ e. ne e);
       rest = record {
         drives = ap (drives_of D B) long;
-        blocks = eC;
+        blocks = eF;
         others = λ k hk ne. record {
           state = refl;
           contents = λ _ j hj. moved k j ∙ other k j holds ok.size ok.drive ok.block hk hj (λ e _. ne e);
         };
       };
     }
-
--- What `place` tells of a layout with a rack's sizes, it tells of the rack.
-pub lawful_of : (D B D' B' d b n : ℕ) → D ≡ D' → B ≡ B' → Lawful D B d b n → Lawful D' B' d b n
-lawful_of D B D' B' d b n eD eB ok = record { drive = omega (arith, ok.drive); block = omega (arith, ok.block); size = ok.size }

@@ -43,6 +43,11 @@ pub data Refused (m : Meaning) (d b n : ℕ) (e : Refusal) (m' : Meaning) : Type
   not_live : e ≡ NotLive d b → Lawful m.drives m.blocks d b n → (m.state d ≢ Live) → Same m m' → Refused m d b n e m'
   fails : e ≡ NotLive d b → Lawful m.drives m.blocks d b n → Fails m d m' → Refused m d b n e m'
 
+-- A touch may go on, or is refused before it is made.
+abbrev pub AdmitAnswer : Meaning → (d b n : ℕ) → Result Unit Refusal → Type 0
+AdmitAnswer m d b n (Ok _) = Open m d b n
+AdmitAnswer m d b n (Err e) = Refused m d b n e m
+
 -- An accepted read fills the buffer with the block of a live drive, and changes nothing else.
 pub record Read (m : Meaning) (d b : ℕ) (buf : List ℕ) (m' : Meaning) (buf' : List ℕ) : Type 0 where
   pub lawful : Lawful m.drives m.blocks d b (length buf)

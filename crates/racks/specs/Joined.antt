@@ -46,3 +46,10 @@ pub record Renumbered (from to : ℕ) (e f : Refusal) : Type 0 where
   pub buffer_size : e ≡ BufferSize → f ≡ BufferSize
   pub not_live : (b : ℕ) → e ≡ NotLive from b → f ≡ NotLive to b
   pub drive_live : e ≡ DriveLive from → f ≡ DriveLive to
+
+-- s is the answer r, but that a fault of drive `from` speaks of drive `to`.
+abbrev pub Renumbers : {T : Type 0} (from to : ℕ) → Result T Refusal → Result T Refusal → Type 0
+Renumbers from to (Ok x) (Ok y) = y ≡ x
+Renumbers from to (Err e) (Err f) = Renumbered from to e f
+Renumbers from to (Ok _) (Err _) = ⊥
+Renumbers from to (Err _) (Ok _) = ⊥

@@ -1,14 +1,11 @@
 // The flat rack: drives that are parts of the caller's memory.
-ghost use Rattle.std.specs.Prelude.{◌≡◌, ℕ, ◌+◌, ◌≤◌, length};
-ghost use Rattle.racks.specs.declared.DriveState.TheVariants.{Live};
-ghost use Rattle.racks.specs.Calls.{ReadAnswer, WriteAnswer, FitAnswer, PullAnswer};
-ghost use Rattle.racks.specs.Layout.{block_at, drives_of, blocks_of};
-ghost use Rattle.racks.specs.LayoutSizes.{flat_sized};
-ghost use Rattle.racks.specs.Flat.{memory_of, state_of, flat_meaning, FlatRead, FlatWrite, FlatFit, FlatPull};
+ghost use Rattle.std.specs.Prelude.{◌≡◌, length};
+ghost use Rattle.racks.specs.Layout.{IsLaidOut, drives_of, blocks_of};
 
 use crate::DriveState;
 use crate::layout::Layout;
 use crate::rack::{Rack, ReadingRack};
+use blocks::MAX_DRIVES;
 use refusals::Refusal;
 
 // The blocks of drive 0 lie first in the memory, then those of drive 1, and so on. No drive ever fails, and a drive that is fitted
@@ -16,12 +13,17 @@ use refusals::Refusal;
 #[derive(Drop)]
 pub struct FlatRack<'a> {
     memory: &'a mut [u8],
-    drives: u8,
-    blocks: u32,
-    states: [DriveState; 32],
+    layout: Layout,
+    // `as`, since the length of an array calls no function.
+    states: [DriveState; MAX_DRIVES as usize],
+    ghost laid_out: { IsLaidOut layout.drives layout.blocks (length memory.now) },
 }
 
 impl<'a> FlatRack<'a> {
+    ghost use Rattle.std.specs.Prelude.{ℕ};
+    ghost use Rattle.racks.specs.declared.DriveState.TheVariants.{Live};
+    ghost use Rattle.racks.specs.Flat.{memory_of, state_of, flat_meaning};
+
     // A rack of live drives, if the memory has just the bytes for so many drives of so many blocks; else a rack of no drives.
     pub fn new(memory: &'a mut [u8], drives: u8, blocks: u32) -> FlatRack<'a>
         ensures drives { (flat_meaning result).drives ≡ drives_of drives blocks (length memory.old) }
@@ -31,10 +33,9 @@ impl<'a> FlatRack<'a> {
         ensures lender { result.memory.ghost_name ≡ memory.entry.ghost_name }
     {
         FlatRack {
+            layout: Layout::of(drives, blocks, memory.len()),
             memory,
-            drives,
-            blocks,
-            states: [DriveState::Live; 32],
+            states: [DriveState::Live; MAX_DRIVES as usize],
         }
     }
 
@@ -47,85 +48,70 @@ impl<'a> FlatRack<'a> {
         memory
     }
 
-    fn layout(&self) -> Layout
-        ensures drives { result.drives ≡ (flat_meaning self.now).drives }
-        ensures blocks { result.blocks ≡ (flat_meaning self.now).blocks }
-        ensures bytes { result.bytes ≡ length self.now.memory.now }
+    // The memory behind a `&`, so that the proof of `read` sees that it stays as it is.
+    fn bytes(&self) -> &[u8]
+        ensures { result.now ≡ memory_of self.now }
     {
-        Layout::of(self.drives, self.blocks, self.memory.len())
-    }
-
-    // Copies the block that begins at `at`.
-    fn load(&self, at: usize, buf: &mut [u8])
-        requires within { at + 512 ≤ length (memory_of self.now) }
-        requires size { length buf.old ≡ 512 }
-        ensures { buf.new ≡ block_at (memory_of self.now) at }
-    {
-        buf.copy_from_slice(&self.memory[at..at + 512]);
+        self.memory
     }
 }
 
 impl ReadingRack for FlatRack<'_> {
+    ghost use Rattle.racks.specs.Calls.{ReadAnswer};
+    ghost use Rattle.racks.specs.LayoutSizes.{flat_sized};
+    ghost use Rattle.racks.specs.Flat.{memory_of, state_of, flat_meaning, FlatRead};
+
     ghost meaning = { flat_meaning };
 
-    ghost sized = { λ r. flat_sized r.drives r.blocks (memory_of r) (state_of r) };
+    ghost sized = { λ r. flat_sized r.layout.drives r.layout.blocks (memory_of r) (state_of r) };
 
     fn drives(&self) -> u8 {
-        self.layout().drives
+        self.layout.drives
     }
 
     fn blocks(&self) -> u32 {
-        self.layout().blocks
+        self.layout.blocks
     }
 
     fn state(&self, drive: u8) -> Result<DriveState, Refusal> {
-        if drive >= self.layout().drives {
+        if drive >= self.drives() {
             return Err(Refusal::NoDrive { drive });
         }
-        Ok(self.states[drive as usize])
+        Ok(self.states[usize::from(drive)])
     }
 
     fn read(&mut self, drive: u8, block: u32, buf: &mut [u8]) -> Result<(), Refusal>
         ensures answer { ReadAnswer (flat_meaning self.old) drive block buf.old result (flat_meaning self.new) buf.new }
         ensures own { FlatRead self.old drive block buf.old result self.new }
     {
-        let at = self.layout().place(drive, block, buf.len())?;
-        match self.states[drive as usize] {
-            DriveState::Live => {
-                self.load(at, buf);
-                Ok(())
-            }
-            DriveState::Failed | DriveState::Pulled => Err(Refusal::NotLive { drive, block }),
-        }
+        self.admit(drive, block, buf.len())?;
+        self.layout.load(self.bytes(), drive, block, buf);
+        Ok(())
     }
 }
 
 impl Rack for FlatRack<'_> {
+    ghost use Rattle.racks.specs.Calls.{WriteAnswer, FitAnswer, PullAnswer};
+    ghost use Rattle.racks.specs.Flat.{flat_meaning, FlatWrite, FlatFit, FlatPull};
+
     fn write(&mut self, drive: u8, block: u32, buf: &[u8]) -> Result<(), Refusal>
         ensures answer { WriteAnswer (flat_meaning self.old) drive block buf.now result (flat_meaning self.new) }
         ensures own { FlatWrite self.old drive block buf.now result self.new }
     {
-        let at = self.layout().place(drive, block, buf.len())?;
-        match self.states[drive as usize] {
-            DriveState::Live => {
-                self.memory[at..at + 512].copy_from_slice(buf);
-                Ok(())
-            }
-            DriveState::Failed | DriveState::Pulled => Err(Refusal::NotLive { drive, block }),
-        }
+        self.admit(drive, block, buf.len())?;
+        self.layout.store(self.memory, drive, block, buf);
+        Ok(())
     }
 
     fn fit(&mut self, drive: u8) -> Result<(), Refusal>
         ensures answer { FitAnswer (flat_meaning self.old) drive result (flat_meaning self.new) }
         ensures own { FlatFit self.old drive result self.new }
     {
-        match self.state(drive)? {
-            DriveState::Live => Err(Refusal::DriveLive { drive }),
-            DriveState::Failed | DriveState::Pulled => {
-                self.states[drive as usize] = DriveState::Live;
-                Ok(())
-            }
+        if self.state(drive)? == DriveState::Live {
+            return Err(Refusal::DriveLive { drive });
         }
+        self.states[usize::from(drive)] = DriveState::Live;
+        Ok(())
     }
 
     fn pull(&mut self, drive: u8) -> Result<(), Refusal>
@@ -133,7 +119,7 @@ impl Rack for FlatRack<'_> {
         ensures own { FlatPull self.old drive result self.new }
     {
         self.state(drive)?;
-        self.states[drive as usize] = DriveState::Pulled;
+        self.states[usize::from(drive)] = DriveState::Pulled;
         Ok(())
     }
 }

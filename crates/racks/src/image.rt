@@ -1,9 +1,6 @@
 // The image rack: the flat layout over bytes that can only be read.
 ghost use Rattle.std.specs.Prelude.{◌≡◌, length};
-ghost use Rattle.racks.specs.Calls.{ReadAnswer};
-ghost use Rattle.racks.specs.Layout.{drives_of, blocks_of};
-ghost use Rattle.racks.specs.LayoutSizes.{flat_sized};
-ghost use Rattle.racks.specs.Image.{marked, image_meaning};
+ghost use Rattle.racks.specs.Layout.{IsLaidOut, drives_of, blocks_of};
 
 use crate::DriveState;
 use crate::layout::Layout;
@@ -14,12 +11,14 @@ use refusals::Refusal;
 #[derive(Drop)]
 pub struct ImageRack<'a> {
     bytes: &'a [u8],
-    drives: u8,
-    blocks: u32,
+    layout: Layout,
     pulled: u32,
+    ghost laid_out: { IsLaidOut layout.drives layout.blocks (length bytes.now) },
 }
 
 impl<'a> ImageRack<'a> {
+    ghost use Rattle.racks.specs.Image.{image_meaning};
+
     // A rack that reads `bytes`, if these are just so many drives of so many blocks; else a rack of no drives.
     pub fn new(bytes: &'a [u8], drives: u8, blocks: u32, pulled: u32) -> ImageRack<'a>
         ensures drives { (image_meaning result).drives ≡ drives_of drives blocks (length bytes.now) }
@@ -29,8 +28,7 @@ impl<'a> ImageRack<'a> {
     {
         ImageRack {
             bytes,
-            drives,
-            blocks,
+            layout: Layout::of(drives, blocks, bytes.len()),
             pulled,
         }
     }
@@ -41,31 +39,27 @@ impl<'a> ImageRack<'a> {
     {
         self.bytes
     }
-
-    fn layout(&self) -> Layout
-        ensures drives { result.drives ≡ (image_meaning self.now).drives }
-        ensures blocks { result.blocks ≡ (image_meaning self.now).blocks }
-        ensures bytes { result.bytes ≡ length self.now.bytes.now }
-    {
-        Layout::of(self.drives, self.blocks, self.bytes.len())
-    }
 }
 
 impl ReadingRack for ImageRack<'_> {
+    ghost use Rattle.racks.specs.Calls.{ReadAnswer};
+    ghost use Rattle.racks.specs.LayoutSizes.{flat_sized};
+    ghost use Rattle.racks.specs.Image.{marked, image_meaning};
+
     ghost meaning = { image_meaning };
 
-    ghost sized = { λ r. flat_sized r.drives r.blocks r.bytes.now (marked r.pulled) };
+    ghost sized = { λ r. flat_sized r.layout.drives r.layout.blocks r.bytes.now (marked r.pulled) };
 
     fn drives(&self) -> u8 {
-        self.layout().drives
+        self.layout.drives
     }
 
     fn blocks(&self) -> u32 {
-        self.layout().blocks
+        self.layout.blocks
     }
 
     fn state(&self, drive: u8) -> Result<DriveState, Refusal> {
-        if drive >= self.layout().drives {
+        if drive >= self.drives() {
             return Err(Refusal::NoDrive { drive });
         }
         if (self.pulled >> drive) % 2 == 1 {
@@ -79,13 +73,8 @@ impl ReadingRack for ImageRack<'_> {
         ensures answer { ReadAnswer (image_meaning self.old) drive block buf.old result (image_meaning self.new) buf.new }
         ensures unchanged { self.new ≡ self.old }
     {
-        let at = self.layout().place(drive, block, buf.len())?;
-        match self.state(drive)? {
-            DriveState::Live => {
-                buf.copy_from_slice(&self.bytes[at..at + 512]);
-                Ok(())
-            }
-            DriveState::Failed | DriveState::Pulled => Err(Refusal::NotLive { drive, block }),
-        }
+        self.admit(drive, block, buf.len())?;
+        self.layout.load(self.bytes, drive, block, buf);
+        Ok(())
     }
 }

@@ -1,57 +1,61 @@
 // The flat layout, which the flat rack and the image rack share.
-ghost use Rattle.std.specs.Prelude.{◌≡◌, ◌+◌, ◌*◌, ◌≤◌, MatchResult};
-ghost use Rattle.racks.specs.Calls.{Lawful, Unlawful};
-ghost use Rattle.racks.specs.Layout.{start, drives_of, blocks_of};
+ghost use Rattle.std.specs.Prelude.{◌≡◌, ◌+◌, ◌≤◌, length};
+ghost use Rattle.racks.specs.Layout.{start, block_at, stored_at, drives_of, blocks_of};
 
-use refusals::Refusal;
+use blocks::{BLOCK_SIZE, MAX_BLOCKS, MAX_DRIVES};
 
-// How many drives of how many blocks lie in a memory. A rack makes it anew for each call and does not hold it: a type with a `&mut`
-// and a ghost field in it could not stand for the rack of generic code.
+// How many drives of how many blocks lie in a row of bytes. Each rack says for itself that these fit its bytes, since a ghost field
+// here, in a struct beside a `&mut`, would keep the flat rack from standing for a type parameter of a struct.
 #[derive(Clone, Copy)]
 pub struct Layout {
     pub drives: u8,
     pub blocks: u32,
-    pub bytes: usize,
-    ghost drives_bound: { drives ≤ 32 },
-    ghost blocks_bound: { blocks ≤ 65536 },
-    ghost holds: { drives * blocks * 512 ≤ bytes },
 }
 
+// A u32 goes into a usize by `as`, since there is no `From` for it.
 impl Layout {
-    // The sizes asked for, if they keep within the limits and the memory has just that many bytes; else none at all.
+    // The sizes asked for, if they keep within the limits and there are just that many bytes; else none at all.
     pub fn of(drives: u8, blocks: u32, bytes: usize) -> Layout
         ensures drives { result.drives ≡ drives_of drives blocks bytes }
         ensures blocks { result.blocks ≡ blocks_of drives blocks bytes }
-        ensures bytes { result.bytes ≡ bytes }
     {
-        if drives <= 32 && blocks <= 65536 && bytes == drives as usize * blocks as usize * 512 {
-            Layout {
-                drives,
-                blocks,
-                bytes,
-            }
+        let fits = drives <= MAX_DRIVES
+            && blocks <= MAX_BLOCKS
+            && bytes == usize::from(drives) * blocks as usize * BLOCK_SIZE;
+        if fits {
+            Layout { drives, blocks }
         } else {
             Layout {
                 drives: 0,
                 blocks: 0,
-                bytes,
             }
         }
     }
 
-    // Where a block begins, if it may be touched with a buffer of so many bytes.
-    pub fn place(self, drive: u8, block: u32, len: usize) -> Result<usize, Refusal>
-        ensures { MatchResult result (λ at. Lawful self.drives self.blocks drive block len × (at ≡ start self.blocks drive block) × (at + 512 ≤ self.bytes)) (λ e. Unlawful self.drives self.blocks drive block len e) }
+    // Copies a block out of the bytes.
+    pub fn load(self, bytes: &[u8], drive: u8, block: u32, buf: &mut [u8])
+        requires within { start self.blocks drive block + 512 ≤ length bytes.now }
+        requires size { length buf.old ≡ 512 }
+        ensures { buf.new ≡ block_at bytes.now (start self.blocks drive block) }
     {
-        if drive >= self.drives {
-            return Err(Refusal::NoDrive { drive });
-        }
-        if block >= self.blocks {
-            return Err(Refusal::NoBlock { block });
-        }
-        if len != 512 {
-            return Err(Refusal::BufferSize);
-        }
-        Ok((drive as usize * self.blocks as usize + block as usize) * 512)
+        let at = self.start(drive, block);
+        buf.copy_from_slice(&bytes[at..at + BLOCK_SIZE]);
+    }
+
+    // Replaces a block of the bytes.
+    pub fn store(self, bytes: &mut [u8], drive: u8, block: u32, buf: &[u8])
+        requires within { start self.blocks drive block + 512 ≤ length bytes.old }
+        requires size { length buf.now ≡ 512 }
+        ensures { bytes.new ≡ stored_at bytes.old (start self.blocks drive block) buf.now }
+    {
+        let at = self.start(drive, block);
+        bytes[at..at + BLOCK_SIZE].copy_from_slice(buf);
+    }
+
+    // Where a block begins.
+    fn start(self, drive: u8, block: u32) -> usize
+        ensures { result ≡ start self.blocks drive block }
+    {
+        (usize::from(drive) * self.blocks as usize + block as usize) * BLOCK_SIZE
     }
 }

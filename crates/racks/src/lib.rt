@@ -24,7 +24,7 @@ pub enum DriveState {
 }
 
 impl DriveState {
-    // The number that stands for the state.
+    // The number that stands for the state. The numbers are a table of the racks' own, so that they are written out.
     pub fn number(self) -> u8
         ensures { result ≡ state_number self }
     {

@@ -1,9 +1,10 @@
 // The meaning of a rack, call by call.
 ghost use Rattle.std.specs.Prelude.{◌≡◌};
 ghost use Rattle.racks.specs.Meaning.{Meaning, Sized};
-ghost use Rattle.racks.specs.Calls.{StateAnswer, ReadAnswer, WriteAnswer, FitAnswer, PullAnswer};
+ghost use Rattle.racks.specs.Calls.{StateAnswer, AdmitAnswer, ReadAnswer, WriteAnswer, FitAnswer, PullAnswer};
 
 use crate::DriveState;
+use blocks::BLOCK_SIZE;
 use refusals::Refusal;
 
 // What can be read: a set of drives that all have the same number of blocks of 512 bytes.
@@ -24,6 +25,24 @@ pub trait ReadingRack {
     // A drive's state.
     fn state(&self, drive: u8) -> Result<DriveState, Refusal>
         ensures { StateAnswer (meaning self.now) drive result };
+
+    // Whether a block can be touched with a buffer of so many bytes: it is there, the buffer is as long, and the drive is live; else
+    // the first refusal.
+    fn admit(&self, drive: u8, block: u32, len: usize) -> Result<(), Refusal>
+        ensures { AdmitAnswer (meaning self.now) drive block len result }
+    {
+        let state = self.state(drive)?;
+        if block >= self.blocks() {
+            return Err(Refusal::NoBlock { block });
+        }
+        if len != BLOCK_SIZE {
+            return Err(Refusal::BufferSize);
+        }
+        if state != DriveState::Live {
+            return Err(Refusal::NotLive { drive, block });
+        }
+        Ok(())
+    }
 
     // Fills the buffer with a block of a live drive; or that drive fails in this call.
     fn read(&mut self, drive: u8, block: u32, buf: &mut [u8]) -> Result<(), Refusal>

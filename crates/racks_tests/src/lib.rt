@@ -5,3 +5,5 @@
 mod flat;
 #[cfg(test)]
 mod others;
+#[cfg(test)]
+mod reading;

@@ -1,4 +1,5 @@
 // The joined rack, the image rack and the racks to test with.
+use crate::reading::read_block;
 use racks::{DriveState, FlatRack, ImageRack, JoinedRack, Rack, ReadingRack};
 use refusals::Refusal;
 use std::test::Fail;
@@ -6,26 +7,23 @@ use test_racks::{DeadRack, FailingRack};
 
 #[test]
 fn joined_numbers(rt: HostRuntime) -> Result<(), Fail> {
-    let mut left = vec![in rt.alloc(); 1u8; 2048]?;
-    let mut right = vec![in rt.alloc(); 2u8; 3072]?;
-    let mut buf = vec![in rt.alloc(); 0u8; 512]?;
-    let first = FlatRack::new(left.as_mut_slice(), 2, 2);
-    let second = FlatRack::new(right.as_mut_slice(), 3, 2);
+    let mut left = [1; 2048];
+    let mut right = [2; 3072];
+    let first = FlatRack::new(&mut left, 2, 2);
+    let second = FlatRack::new(&mut right, 3, 2);
     let mut rack = JoinedRack::new(first, second);
     assert_eq!(rt; rack.drives(), 5);
     assert_eq!(rt; rack.blocks(), 2);
-    assert_eq!(rt; rack.read(1, 1, buf.as_mut_slice()), Ok(()));
-    assert_eq!(rt; buf.get(0).copied(), Some(1));
-    assert_eq!(rt; rack.read(2, 1, buf.as_mut_slice()), Ok(()));
-    assert_eq!(rt; buf.get(0).copied(), Some(2));
+    assert_eq!(rt; read_block(&mut rack, 1, 1), Ok([1; 512]));
+    assert_eq!(rt; read_block(&mut rack, 2, 1), Ok([2; 512]));
     assert_eq!(rt; rack.pull(3), Ok(()));
     assert_eq!(rt;
-        rack.read(3, 1, buf.as_mut_slice()),
+        read_block(&mut rack, 3, 1),
         Err(Refusal::NotLive { drive: 3, block: 1 })
     );
     assert_eq!(rt; rack.fit(4), Err(Refusal::DriveLive { drive: 4 }));
     assert_eq!(rt;
-        rack.read(5, 0, buf.as_mut_slice()),
+        read_block(&mut rack, 5, 0),
         Err(Refusal::NoDrive { drive: 5 })
     );
     let (_, second) = rack.into_racks();
@@ -35,10 +33,10 @@ fn joined_numbers(rt: HostRuntime) -> Result<(), Fail> {
 
 #[test]
 fn joined_sizes(rt: HostRuntime) -> Result<(), Fail> {
-    let mut left = vec![in rt.alloc(); 1u8; 2048]?;
-    let mut right = vec![in rt.alloc(); 2u8; 3072]?;
-    let first = FlatRack::new(left.as_mut_slice(), 2, 2);
-    let second = FlatRack::new(right.as_mut_slice(), 2, 3);
+    let mut left = [1; 2048];
+    let mut right = [2; 3072];
+    let first = FlatRack::new(&mut left, 2, 2);
+    let second = FlatRack::new(&mut right, 2, 3);
     let rack = JoinedRack::new(first, second);
     assert_eq!(rt; rack.drives(), 0);
     assert_eq!(rt; rack.blocks(), 0);
@@ -55,53 +53,51 @@ fn joined_sizes(rt: HostRuntime) -> Result<(), Fail> {
 
 #[test]
 fn images(rt: HostRuntime) -> Result<(), Fail> {
-    let bytes = vec![in rt.alloc(); 3u8; 2048]?;
-    let mut buf = vec![in rt.alloc(); 0u8; 512]?;
-    let mut rack = ImageRack::new(bytes.as_slice(), 4, 1, 0x8000_0004);
+    let bytes = [3; 2048];
+    let mut buf = [0; 512];
+    let mut rack = ImageRack::new(&bytes, 4, 1, 0x8000_0004);
     assert_eq!(rt; rack.state(2), Ok(DriveState::Pulled));
     assert_eq!(rt; rack.state(3), Ok(DriveState::Live));
     assert_eq!(rt;
-        rack.read(2, 0, buf.as_mut_slice()),
+        rack.read(2, 0, &mut buf),
         Err(Refusal::NotLive { drive: 2, block: 0 })
     );
-    assert_eq!(rt; buf.get(0).copied(), Some(0));
-    assert_eq!(rt; rack.read(3, 0, buf.as_mut_slice()), Ok(()));
-    assert_eq!(rt; buf.get(511).copied(), Some(3));
-    assert_eq!(rt; ImageRack::new(bytes.as_slice(), 4, 2, 0).blocks(), 0);
+    assert_eq!(rt; buf[0], 0);
+    assert_eq!(rt; rack.read(3, 0, &mut buf), Ok(()));
+    assert_eq!(rt; buf[511], 3);
+    assert_eq!(rt; ImageRack::new(&bytes, 4, 2, 0).blocks(), 0);
     Ok(())
 }
 
 #[test]
 fn failures(rt: HostRuntime) -> Result<(), Fail> {
-    let mut memory = vec![in rt.alloc(); 4u8; 3072]?;
-    let mut buf = vec![in rt.alloc(); 0u8; 512]?;
-    let inner = FlatRack::new(memory.as_mut_slice(), 3, 2);
+    let mut memory = [4; 3072];
+    let inner = FlatRack::new(&mut memory, 3, 2);
     let mut rack = FailingRack::new(inner, &[1, 3]);
-    assert_eq!(rt; rack.read(0, 0, buf.as_mut_slice()), Ok(()));
+    assert_eq!(rt; read_block(&mut rack, 0, 0), Ok([4; 512]));
     assert_eq!(rt;
-        rack.read(1, 0, buf.as_mut_slice()),
+        read_block(&mut rack, 1, 0),
         Err(Refusal::NotLive { drive: 1, block: 0 })
     );
     assert_eq!(rt; rack.state(1), Ok(DriveState::Failed));
     assert_eq!(rt;
-        rack.read(1, 1, buf.as_mut_slice()),
+        read_block(&mut rack, 1, 1),
         Err(Refusal::NotLive { drive: 1, block: 1 })
     );
-    assert_eq!(rt; rack.write(2, 0, buf.as_slice()), Ok(()));
+    assert_eq!(rt; rack.write(2, 0, &[4; 512]), Ok(()));
     assert_eq!(rt; rack.fit(1), Err(Refusal::NotLive { drive: 1, block: 0 }));
     assert_eq!(rt; rack.fit(1), Ok(()));
-    assert_eq!(rt; rack.read(1, 1, buf.as_mut_slice()), Ok(()));
+    assert_eq!(rt; read_block(&mut rack, 1, 1), Ok([4; 512]));
     assert_eq!(rt; rack.touches(), 6);
     Ok(())
 }
 
 #[test]
 fn dead_from_the_start(rt: HostRuntime) -> Result<(), Fail> {
-    let mut buf = vec![in rt.alloc(); 0u8; 512]?;
     let mut rack = DeadRack::new(3, 2);
     assert_eq!(rt; rack.state(0), Ok(DriveState::Failed));
     assert_eq!(rt;
-        rack.read(0, 1, buf.as_mut_slice()),
+        read_block(&mut rack, 0, 1),
         Err(Refusal::NotLive { drive: 0, block: 1 })
     );
     assert_eq!(rt; rack.pull(0), Ok(()));
@@ -113,21 +109,20 @@ fn dead_from_the_start(rt: HostRuntime) -> Result<(), Fail> {
 // Racks that are made of racks, of several kinds.
 #[test]
 fn nested(rt: HostRuntime) -> Result<(), Fail> {
-    let mut memory = vec![in rt.alloc(); 4u8; 1024]?;
-    let mut buf = vec![in rt.alloc(); 0u8; 512]?;
-    let inner = FailingRack::new(FlatRack::new(memory.as_mut_slice(), 2, 1), &[1]);
+    let mut memory = [4; 1024];
+    let inner = FailingRack::new(FlatRack::new(&mut memory, 2, 1), &[1]);
     let mut rack = JoinedRack::new(
         JoinedRack::new(DeadRack::new(1, 1), inner),
         DeadRack::new(1, 1),
     );
     assert_eq!(rt; rack.drives(), 4);
-    assert_eq!(rt; rack.read(2, 0, buf.as_mut_slice()), Ok(()));
+    assert_eq!(rt; read_block(&mut rack, 2, 0), Ok([4; 512]));
     assert_eq!(rt;
-        rack.read(2, 0, buf.as_mut_slice()),
+        read_block(&mut rack, 2, 0),
         Err(Refusal::NotLive { drive: 2, block: 0 })
     );
     assert_eq!(rt;
-        rack.read(3, 0, buf.as_mut_slice()),
+        read_block(&mut rack, 3, 0),
         Err(Refusal::NotLive { drive: 3, block: 0 })
     );
     assert_eq!(rt; rack.fit(2), Ok(()));

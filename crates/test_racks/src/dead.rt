@@ -1,9 +1,9 @@
 // A rack that is dead from the start: every drive has failed, and a drive that is fitted fails at once.
 ghost use Rattle.std.specs.Prelude.{◌≡◌, ℕ, min};
 ghost use Rattle.racks.specs.declared.DriveState.TheVariants.{Failed};
-ghost use Rattle.racks.specs.Calls.{Refused};
 ghost use Rattle.test_racks.specs.Dead.{dead_meaning, dead_sized};
 
+use blocks::{MAX_BLOCKS, MAX_DRIVES};
 use racks::{DriveState, Rack, ReadingRack};
 use refusals::Refusal;
 
@@ -11,7 +11,8 @@ use refusals::Refusal;
 pub struct DeadRack {
     drives: u8,
     blocks: u32,
-    pulled: [bool; 32],
+    // `as`, since the length of an array calls no function.
+    pulled: [bool; MAX_DRIVES as usize],
 }
 
 impl DeadRack {
@@ -24,24 +25,8 @@ impl DeadRack {
         DeadRack {
             drives,
             blocks,
-            pulled: [false; 32],
+            pulled: [false; MAX_DRIVES as usize],
         }
-    }
-
-    // Why a touch is refused: if for nothing else, since no drive is live.
-    fn refusal(&self, drive: u8, block: u32, len: usize) -> Refusal
-        ensures { Refused (dead_meaning self.now) drive block len result (dead_meaning self.now) }
-    {
-        if drive >= self.drives() {
-            return Refusal::NoDrive { drive };
-        }
-        if block >= self.blocks() {
-            return Refusal::NoBlock { block };
-        }
-        if len != 512 {
-            return Refusal::BufferSize;
-        }
-        Refusal::NotLive { drive, block }
     }
 }
 
@@ -51,43 +36,44 @@ impl ReadingRack for DeadRack {
     ghost sized = { dead_sized };
 
     fn drives(&self) -> u8 {
-        self.drives.min(32)
+        self.drives.min(MAX_DRIVES)
     }
 
     fn blocks(&self) -> u32 {
-        self.blocks.min(65536)
+        self.blocks.min(MAX_BLOCKS)
     }
 
     fn state(&self, drive: u8) -> Result<DriveState, Refusal> {
         if drive >= self.drives() {
             return Err(Refusal::NoDrive { drive });
         }
-        if self.pulled[drive as usize] {
+        if self.pulled[usize::from(drive)] {
             Ok(DriveState::Pulled)
         } else {
             Ok(DriveState::Failed)
         }
     }
 
+    // No drive is live, so that no touch is admitted.
     fn read(&mut self, drive: u8, block: u32, buf: &mut [u8]) -> Result<(), Refusal> {
-        Err(self.refusal(drive, block, buf.len()))
+        self.admit(drive, block, buf.len())
     }
 }
 
 impl Rack for DeadRack {
     fn write(&mut self, drive: u8, block: u32, buf: &[u8]) -> Result<(), Refusal> {
-        Err(self.refusal(drive, block, buf.len()))
+        self.admit(drive, block, buf.len())
     }
 
     fn fit(&mut self, drive: u8) -> Result<(), Refusal> {
         self.state(drive)?;
-        self.pulled[drive as usize] = false;
+        self.pulled[usize::from(drive)] = false;
         Err(Refusal::NotLive { drive, block: 0 })
     }
 
     fn pull(&mut self, drive: u8) -> Result<(), Refusal> {
         self.state(drive)?;
-        self.pulled[drive as usize] = true;
+        self.pulled[usize::from(drive)] = true;
         Ok(())
     }
 }

@@ -1,8 +1,8 @@
 // A rack whose drives fail at chosen touches, around any other rack.
-ghost use Rattle.std.specs.Prelude.{◌≡◌, ◌+◌, ◌%◌, ◌^◌, false, replicate, ◌==◌};
-ghost use Rattle.std.specs.List.{IsAnyAnswer};
-ghost use Rattle.test_racks.specs.Failing.{failing, failing_sized, AdmitAnswer};
+ghost use Rattle.std.specs.Prelude.{◌≡◌, ◌+◌, ◌%◌, ◌^◌, ◌<◌, false, replicate};
+ghost use Rattle.test_racks.specs.Failing.{failing, failing_sized, TouchAnswer};
 
+use blocks::MAX_DRIVES;
 use racks::{DriveState, Rack, ReadingRack};
 use refusals::Refusal;
 
@@ -13,7 +13,8 @@ pub struct FailingRack<'a, R: ReadingRack> {
     inner: R,
     at: &'a [u32],
     touches: u32,
-    failed: [bool; 32],
+    // `as`, since the length of an array calls no function.
+    failed: [bool; MAX_DRIVES as usize],
 }
 
 impl<'a, R: ReadingRack> FailingRack<'a, R> {
@@ -28,7 +29,7 @@ impl<'a, R: ReadingRack> FailingRack<'a, R> {
             inner,
             at,
             touches: 0,
-            failed: [false; 32],
+            failed: [false; MAX_DRIVES as usize],
         }
     }
 
@@ -47,41 +48,28 @@ impl<'a, R: ReadingRack> FailingRack<'a, R> {
         self.touches
     }
 
-    // Counts a touch, and says whether the drive is to fail in it.
-    fn falters(&mut self) -> bool
+    // Counts a touch of a drive, which fails in it if its number is a chosen one.
+    fn touch(&mut self, drive: u8, block: u32) -> Result<(), Refusal>
+        requires { drive < 32 }
         ensures inner { self.new.inner ≡ self.old.inner }
-        ensures failed { self.new.failed ≡ self.old.failed }
         ensures at { self.new.at.now ≡ self.old.at.now }
         ensures counted { self.new.touches ≡ (self.old.touches + 1) % 2 ^ 32 }
-        ensures chosen { IsAnyAnswer (λ n here. here ≡ (n == self.old.touches)) self.old.at.now result }
+        ensures answer { TouchAnswer self.old.at.now self.old.touches drive block self.old.failed result self.new.failed }
     {
         let touch = self.touches;
         self.touches = touch.wrapping_add(1);
-        self.at.contains(&touch)
-    }
-
-    // Refuses a touch that needs no drive to be refused, or whose drive is not live.
-    fn admit(&self, drive: u8, block: u32, len: usize) -> Result<(), Refusal>
-        ensures { AdmitAnswer (failing self.now.failed (R.ReadingRack.meaning self.now.inner)) drive block len result }
-    {
-        let state = self.state(drive)?;
-        if block >= self.blocks() {
-            return Err(Refusal::NoBlock { block });
+        if self.at.contains(&touch) {
+            self.failed[usize::from(drive)] = true;
+            return Err(Refusal::NotLive { drive, block });
         }
-        if len != 512 {
-            return Err(Refusal::BufferSize);
-        }
-        match state {
-            DriveState::Live => Ok(()),
-            DriveState::Failed | DriveState::Pulled => Err(Refusal::NotLive { drive, block }),
-        }
+        Ok(())
     }
 }
 
 impl<R: ReadingRack> ReadingRack for FailingRack<'_, R> {
-    ghost meaning = { λ r. failing r.failed (R.ReadingRack.meaning r.inner) };
+    ghost meaning = { λ r. failing r.failed (R.meaning r.inner) };
 
-    ghost sized = { λ r. failing_sized r.failed (R.ReadingRack.meaning r.inner) (R.ReadingRack.sized r.inner) };
+    ghost sized = { λ r. failing_sized r.failed (R.meaning r.inner) (R.sized r.inner) };
 
     fn drives(&self) -> u8 {
         self.inner.drives()
@@ -93,7 +81,7 @@ impl<R: ReadingRack> ReadingRack for FailingRack<'_, R> {
 
     fn state(&self, drive: u8) -> Result<DriveState, Refusal> {
         let state = self.inner.state(drive)?;
-        if self.failed[drive as usize] {
+        if self.failed[usize::from(drive)] {
             Ok(DriveState::Failed)
         } else {
             Ok(state)
@@ -102,10 +90,7 @@ impl<R: ReadingRack> ReadingRack for FailingRack<'_, R> {
 
     fn read(&mut self, drive: u8, block: u32, buf: &mut [u8]) -> Result<(), Refusal> {
         self.admit(drive, block, buf.len())?;
-        if self.falters() {
-            self.failed[drive as usize] = true;
-            return Err(Refusal::NotLive { drive, block });
-        }
+        self.touch(drive, block)?;
         self.inner.read(drive, block, buf)
     }
 }
@@ -113,33 +98,26 @@ impl<R: ReadingRack> ReadingRack for FailingRack<'_, R> {
 impl<R: Rack> Rack for FailingRack<'_, R> {
     fn write(&mut self, drive: u8, block: u32, buf: &[u8]) -> Result<(), Refusal> {
         self.admit(drive, block, buf.len())?;
-        if self.falters() {
-            self.failed[drive as usize] = true;
-            return Err(Refusal::NotLive { drive, block });
-        }
+        self.touch(drive, block)?;
         self.inner.write(drive, block, buf)
     }
 
     fn fit(&mut self, drive: u8) -> Result<(), Refusal> {
-        match self.state(drive)? {
-            DriveState::Live => return Err(Refusal::DriveLive { drive }),
-            DriveState::Failed | DriveState::Pulled => {}
+        if self.state(drive)? == DriveState::Live {
+            return Err(Refusal::DriveLive { drive });
         }
-        if self.falters() {
-            self.failed[drive as usize] = true;
-            return Err(Refusal::NotLive { drive, block: 0 });
-        }
-        self.failed[drive as usize] = false;
+        self.touch(drive, 0)?;
+        self.failed[usize::from(drive)] = false;
         // The drive within is live yet if it failed only here: it is the new drive, whatever it holds.
-        match self.inner.state(drive)? {
-            DriveState::Live => Ok(()),
-            DriveState::Failed | DriveState::Pulled => self.inner.fit(drive),
+        if self.inner.state(drive)? == DriveState::Live {
+            return Ok(());
         }
+        self.inner.fit(drive)
     }
 
     fn pull(&mut self, drive: u8) -> Result<(), Refusal> {
         self.state(drive)?;
-        self.failed[drive as usize] = false;
+        self.failed[usize::from(drive)] = false;
         self.inner.pull(drive)
     }
 }
