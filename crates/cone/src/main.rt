@@ -8,7 +8,7 @@ use std::io::Read;
 // The verdict on this many bytes of a text is the verdict on the whole of it: a lawful sheet has fewer than 281.
 const ENOUGH: u64 = 512;
 
-fn run(rt: &HostRuntime) -> anyhow::Result<()> {
+fn main(rt: HostRuntime) -> anyhow::Result<()> {
     let mut text = Vec::new(rt.alloc());
     rt.stdin().take(ENOUGH).read_to_end(&mut text)?;
     let mut generator = Generator::fresh();
@@ -17,8 +17,4 @@ fn run(rt: &HostRuntime) -> anyhow::Result<()> {
         Err(refusal) => println!(rt; "{refusal}")?,
     }
     Ok(())
-}
-
-fn main(rt: HostRuntime) -> anyhow::Result<()> {
-    run(&rt)
 }

@@ -2,7 +2,7 @@
 use Rattle.std.proofs.Common.{◌≡◌, ℕ, ◌*◌, ◌<◌, ◌≤◌, List, [], ◌∷◌, ◌++◌, length, take, drop, Ok, Err, Result, sym, refl, ap, ◌∙◌, subst, inl, inr, append_assoc, arith, length-append}
 use native.Mathlib.Decide.{dec_le}
 use Rattle.std.proofs.lemmas.Fmt.{length-decimal-le}
-use Rattle.std.proofs.lemmas.List.{take_all, length-take-le, take-append-drop}
+use Rattle.std.proofs.lemmas.List.{nil_from_length, take_all, length-take-le, take-append-drop}
 use Rattle.refusals.specs.declared.Refusal.{Refusal}
 use Rattle.sheets.specs.declared.read.Sheet.{Sheet}
 use Rattle.sheets.specs.Text.{digits, feed, header, body, sheet, BadRow, in_header, in_rows}
@@ -32,10 +32,6 @@ front_inside (x ∷ p) (y ∷ text) more r h e =
     let q = front_inside p text more r (omega arith) f in
     let s = q.1 in
     (q.0, cc)
-
-nil_front : (xs ys : List ℕ) → xs ++ ys ≡ [] → xs ≡ []
-nil_front [] ys e = refl
-nil_front (x ∷ xs) ys e = absurd (omega (arith, ap length e))
 
 module _ (text more : List ℕ) (long : 281 ≤ length text) where
   line_one_back : (n N : ℕ) → LineOne (text ++ more) n N → LineOne text n N
@@ -81,7 +77,7 @@ module _ (text more : List ℕ) (long : 281 ≤ length text) where
                 let q = front_inside (digits n row ++ feed ∷ []) bad.rest more r size (e ∙ sym (append_assoc (digits n row) (feed ∷ []) r)) in
                 p.1 row q.0 h (q.1 ∙ append_assoc (digits n row) (feed ∷ []) q.0),
           )
-          | inr p ↦ inr (p.0, λ e. p.1 (nil_front bad.rest more e))
+          | inr p ↦ inr (p.0, λ e. p.1 (nil_from_length bad.rest (omega (arith, ap length e, length-append bad.rest more))))
         ];
       }
 

@@ -1,4 +1,4 @@
--- Numbers below 1000 at the front of a text, by their one, two or three digits.
+-- Numbers below 1000 at the front of a text, by their digits.
 use Rattle.std.proofs.Common.{◌≡◌, ℕ, ◌+◌, ◌-◌, ◌*◌, ◌<◌, ◌≤◌, ◌≢◌, List, ◌∷◌, ◌++◌, length, get_or, take, drop, decimal, sym, refl, ap, ◌∙◌, subst, append_assoc, arith, length-append}
 use native.Mathlib.Decide.{dec_lt}
 use Rattle.std.specs.Char.{digit_value}
@@ -100,12 +100,6 @@ same_number end v w r s low h k e =
 pub header_parts : (n N : ℕ) (rest : List ℕ) → header n N ++ rest ≡ decimal n ++ 32 ∷ (decimal N ++ feed ∷ rest)
 header_parts n N rest = simp append_assoc
 
-pub no_header_width : (text : List ℕ) → NoNumber 32 text → NoHeader text
-no_header_width text none n N rest h k e = none n (decimal N ++ feed ∷ rest) h (e ∙ header_parts n N rest)
-
 pub no_header_order : (text : List ℕ) (w : ℕ) (after : List ℕ) → w < 1000 → text ≡ decimal w ++ 32 ∷ after → NoNumber feed after → NoHeader text
 no_header_order text w after l f none n N rest h k e =
     none N rest k (same_number 32 w n after (decimal N ++ feed ∷ rest) (omega arith) l h (sym f ∙ e ∙ header_parts n N rest)).1
-
-pub header_found : (text : List ℕ) (n N : ℕ) (after rest : List ℕ) → text ≡ decimal n ++ 32 ∷ after → after ≡ decimal N ++ feed ∷ rest → text ≡ header n N ++ rest
-header_found text n N after rest e f = e ∙ ap (λ l. decimal n ++ 32 ∷ l) f ∙ sym (header_parts n N rest)

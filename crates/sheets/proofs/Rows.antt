@@ -61,15 +61,11 @@ no_digits columns unread rest row column e none r row' f =
 
 -- fronts of one length
 pub same_fronts : (xs ys r s : List ℕ) → length xs ≡ length ys → xs ++ r ≡ ys ++ s → (xs ≡ ys) × (r ≡ s)
-same_fronts [] [] r s l e = (refl, e)
-same_fronts [] (y ∷ ys) r s l e = absurd (omega arith)
-same_fronts (x ∷ xs) [] r s l e = absurd (omega arith)
-same_fronts (x ∷ xs) (y ∷ ys) r s l e =
-    let f : xs ++ r ≡ ys ++ s = cc in
-    let g : x ≡ y = cc in
-    let p = same_fronts xs ys r s (omega arith) f in
-    let q = p.0 in
-    (cc, p.1)
+same_fronts xs ys r s l e =
+    let n : ℕ = length ys in (
+      sym (take_at xs r n l) ∙ ap (take n) e ∙ take_at ys s n refl,
+      sym (drop_at xs r n l) ∙ ap (drop n) e ∙ drop_at ys s n refl,
+    )
 
 pub no_row_short : (n : ℕ) (text : List ℕ) → length text < n → NoRow n text
 no_row_short n text l row rest h e =
