@@ -42,7 +42,8 @@ fn even_powers<C: Code>(code: &C, z: u8, word: u16) -> u16
     sum
 }
 
-// The image of a byte, branch-free, from those of its bits.
+// The image of a byte, branch-free, from those of its bits. `WordMap::image` is the same of a unit: one function of both would need a trait
+// with laws for `>>`, `*` and `^`, and bytes mapped as units take half as long again.
 fn byte_image(images: &[u8; 8], byte: u8) -> u8
     ensures { result ≡ combined_byte images.now byte }
 {
@@ -53,7 +54,7 @@ fn byte_image(images: &[u8; 8], byte: u8) -> u8
     sum
 }
 
-// Maps every byte of the block. This takes half the steps that its units would.
+// Maps every byte of the block.
 fn apply_bytes(images: &[u8; 8], block: &mut Block)
     ensures { (k : ℕ) → k < 512 → slice_index block.new k ≡ combined_byte images.now (slice_index block.old k) }
 {
