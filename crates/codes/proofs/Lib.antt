@@ -1,3 +1,4 @@
 pub mod Fields
+pub mod Logarithms
 pub mod Passes
 pub mod Words

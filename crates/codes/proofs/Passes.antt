@@ -5,44 +5,27 @@ use Rattle.std.proofs.lemmas.Bool.{cases_eq}
 use Rattle.codes.specs.Blocks.{word, FillsByte, Multiplied, MultipliedByte}
 use Rattle.codes.proofs.Words.{in_byte, word_in_byte, word_16}
 
--- the bytes below j are done, and the others as they were
-pub record BytesDone (n : ℕ) (g : ℕ → ℕ) (before after : List ℕ) (j : ℕ) : Type 0 where
+-- the bytes below j are done, each by R, and the others as they were
+pub record BytesDone (R : ℕ → ℕ → Type 0) (before after : List ℕ) (j : ℕ) : Type 0 where
   pub long : length after ≡ length before
-  pub done : (k : ℕ) → k < j → MultipliedByte n g (get_or before k 0) (get_or after k 0)
+  pub bytes : (k : ℕ) → get_or after k 0 < 256
+  pub done : (k : ℕ) → k < j → R (get_or before k 0) (get_or after k 0)
   pub rest : (k : ℕ) → j ≤ k → get_or after k 0 ≡ get_or before k 0
 
-pub bytes_none : (n : ℕ) (g : ℕ → ℕ) (block : List ℕ) → BytesDone n g block block 0
-bytes_none n g block = record { long = refl; done = λ k lt. absurd (omega arith); rest = λ k le. refl }
-
-pub bytes_more : (n : ℕ) (g : ℕ → ℕ) (before after : List ℕ) (j r : ℕ) → j < length before → BytesDone n g before after j
-    → MultipliedByte n g (get_or after j 0) r → BytesDone n g before (set after j r) (j + 1)
-bytes_more n g before after j r lt so_far image =
-    record {
-      long = length-set after j r ∙ so_far.long;
-      done = λ k below.
-          ⊎_elim
-          (λ e.
-          subst (λ i. MultipliedByte n g (get_or before i 0) (get_or (set after j r) i 0)) (sym e)
-          (subst (λ b. MultipliedByte n g (get_or before j 0) b) (sym (get_or-set_same after j r 0 (omega (arith, so_far.long))))
-          (subst (λ b. MultipliedByte n g b r) (so_far.rest j (omega arith)) image)))
-          (λ ne. subst (λ b. MultipliedByte n g (get_or before k 0) b) (sym (get_or-set_other after j k r 0 ne)) (so_far.done k (omega arith)))
-          (cases_eq k j);
-      rest = λ k above. let ne : k ≢ j = λ e. omega arith in get_or-set_other after j k r 0 ne ∙ so_far.rest k (omega arith);
-    }
-
-pub bytes_all : (n : ℕ) (g : ℕ → ℕ) (before after : List ℕ) → length before ≡ 512 → (n ≡ 16 → ⊥)
-    → BytesDone n g before after 512 → Multiplied n g before after
-bytes_all n g before after lb not_16 all =
+-- each of the 512 bytes has its words multiplied
+pub bytes_all : (n : ℕ) (g : ℕ → ℕ) (before after : List ℕ) → length before ≡ 512 → length after ≡ 512 → (n ≡ 16 → ⊥)
+    → ((k : ℕ) → k < 512 → MultipliedByte n g (get_or before k 0) (get_or after k 0)) → Multiplied n g before after
+bytes_all n g before after lb la not_16 all =
     record {
       words = λ fills i inside. ⊎_elim (λ small. words small i inside) (λ e. absurd (not_16 e)) fills;
       same = λ no_words.
-          sym (ext_get_or 0 before after (sym all.long) (λ k lt. sym ((all.done k (omega arith)).same (λ fills. no_words (inl fills)))));
+          sym (ext_get_or 0 before after (lb ∙ sym la) (λ k lt. sym ((all k (omega (arith, lb))).same (λ fills. no_words (inl fills)))));
     }
   where
     words : FillsByte n → (i : ℕ) → n * i < 4096 → word n after i ≡ g (word n before i)
     words fills i inside =
         word_in_byte n i after fills
-        ∙ (all.done (n * i / 8) (omega arith)).words fills (n * i % 8) (in_byte n i fills).1 (omega arith)
+        ∙ (all (n * i / 8) (omega arith)).words fills (n * i % 8) (in_byte n i fills).1 (omega arith)
         ∙ ap g (sym (word_in_byte n i before fills))
 
 -- the image of a byte that is one word
@@ -62,9 +45,6 @@ pub record WordsDone (R : ℕ → ℕ → Type 0) (before after : List ℕ) (i :
   pub bytes : (k : ℕ) → get_or after k 0 < 256
   pub done : (k : ℕ) → k < i → R (word 16 before k) (word 16 after k)
   pub rest : (k : ℕ) → 2 * i ≤ k → get_or after k 0 ≡ get_or before k 0
-
-pub words_none : (R : ℕ → ℕ → Type 0) (block : List ℕ) → ((k : ℕ) → get_or block k 0 < 256) → WordsDone R block block 0
-words_none R block bytes = record { long = refl; bytes = bytes; done = λ k lt. absurd (omega arith); rest = λ k le. refl }
 
 -- a word that is read from its two bytes
 pub word_read : (i : ℕ) (block : List ℕ) → ((k : ℕ) → get_or block k 0 < 256) → get_or block (2 * i) 0 + get_or block (2 * i + 1) 0 * 256 ≡ word 16 block i

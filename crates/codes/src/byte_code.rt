@@ -5,6 +5,7 @@ ghost use Rattle.std.proofs.Common.{rules};
 
 use crate::code::Code;
 use crate::tables::{LOGS, POWERS};
+use crate::wordwise::map_bytes;
 use blocks::Block;
 
 // Words of 8 bits. Every nonzero byte is a power of g times 1, so a product is a sum of two logarithms.
@@ -15,11 +16,8 @@ pub struct ByteCode;
 fn image(byte: u8) -> u8
     ensures { result ≡ double byte }
 {
-    if byte >= 0x80 {
-        (byte << 1) ^ 0x1d
-    } else {
-        byte << 1
-    }
+    let carry = if byte >= 0x80 { 0x1d } else { 0 };
+    (byte << 1) ^ carry
 }
 
 impl Code for ByteCode {
@@ -48,13 +46,11 @@ impl Code for ByteCode {
         if byte == 0 {
             return 0;
         }
-        let log = LOGS[byte as usize] as u32 + exponent % 255;
-        POWERS[(log % 255) as usize] as u16
+        let log = u32::from(LOGS[usize::from(byte)]) + exponent % 255;
+        u16::from(POWERS[(log % 255) as usize])
     }
 
     fn multiply_block(&self, block: &mut Block) {
-        for byte in block.iter_mut() {
-            *byte = image(*byte);
-        }
+        map_bytes(block, image);
     }
 }

@@ -2,7 +2,7 @@ ghost use Rattle.std.specs.Prelude.{◌≡◌, ℕ, ◌%◌, ◌^◌, ◌<◌, �
 ghost use Rattle.codes.specs.Blocks.{Multiplied, MultipliedByte};
 ghost use Rattle.cyclic.specs.Maps.{power, Lawful};
 
-use crate::wordwise::map_words;
+use crate::wordwise::{map_bytes, map_words};
 use blocks::Block;
 
 // A code is a plain value: a width, an order, and a map of words that applied as many times as the order gives every word back.
@@ -31,15 +31,13 @@ pub trait Code: Copy {
         ensures { MultipliedByte (bits self.now) (map self.now) byte result }
     {
         let width = self.width();
-        if width != 2 && width != 4 && width != 8 {
+        if !matches!(width, 2 | 4 | 8) {
             return byte;
         }
         let mut image = 0;
-        let mut place = 0;
-        while place < 8 {
-            let word = self.multiply((byte >> place) as u16, 1);
+        for place in (0..8u32).step_by(usize::from(width)) {
+            let word = self.multiply(u16::from(byte >> place), 1);
             image |= (word << place) as u8;
-            place += width;
         }
         image
     }
@@ -51,9 +49,7 @@ pub trait Code: Copy {
         if self.width() == 16 {
             map_words(block, |word| self.multiply(word, 1));
         } else {
-            for byte in block.iter_mut() {
-                *byte = self.multiply_byte(*byte);
-            }
+            map_bytes(block, |byte| self.multiply_byte(byte));
         }
     }
 

@@ -14,7 +14,7 @@ pub use byte_code::ByteCode;
 pub use code::Code;
 pub use matrix_code::MatrixCode;
 pub use shift_code::ShiftCode;
-pub use wordwise::map_words;
+pub use wordwise::{map_bytes, map_words};
 
 // What words in blocks are, byte by byte, and that a block is known by its words. The call does nothing; its contract is the statements.
 pub fn layout()

@@ -11,15 +11,12 @@ use blocks::Block;
 #[derive(Clone, Copy)]
 pub struct ShiftCode;
 
-// g of a word: one turn of the seventeen bits.
+// g of a word: one turn of the seventeen bits. The byte code's differs in type and constants; a generic function would need more bounds than the two have lines.
 fn image(word: u16) -> u16
     ensures { result ≡ shift word }
 {
-    if word >= 0x8000 {
-        (word << 1) ^ 0xffff
-    } else {
-        word << 1
-    }
+    let carry = if word >= 0x8000 { 0xffff } else { 0 };
+    (word << 1) ^ carry
 }
 
 impl Code for ShiftCode {
@@ -45,7 +42,7 @@ impl Code for ShiftCode {
 
     fn multiply(&self, word: u16, exponent: u32) -> u16 {
         let turn = exponent % 17;
-        let wide = word as u32;
+        let wide = u32::from(word);
         let turned = (wide << turn) ^ (wide >> (17 - turn));
         let low = (turned & 0xffff) as u16;
         if turned >> 16 & 1 == 1 {

@@ -3,16 +3,29 @@ ghost use Rattle.codes.specs.Blocks.{word as word_of};
 
 use blocks::Block;
 
+// Each byte of a block is replaced by its image.
+pub fn map_bytes<F: Fn(u8) -> u8>(block: &mut Block, image: F)
+    requires { F.IsAlwaysCallable image }
+    ensures bytes { (k : ℕ) → slice_index block.new k < 256 }
+    ensures images { (k : ℕ) → k < 512 → F.post image (slice_index block.old k) (slice_index block.new k) }
+{
+    for byte in block.iter_mut() {
+        *byte = image(*byte);
+    }
+}
+
 // Each word of 16 bits of a block is replaced by its image. They are all read before any is written, so that the compiler may take many at a time.
 pub fn map_words<F: Fn(u16) -> u16>(block: &mut Block, image: F)
     requires { F.IsAlwaysCallable image }
     ensures bytes { (k : ℕ) → slice_index block.new k < 256 }
     ensures words { (i : ℕ) → i < 256 → F.post image (word_of 16 block.old i) (word_of 16 block.new i) }
 {
+    // Filled in a loop: of a call that `array::from_fn` makes, a proof doesn't learn which block its closure saw.
     let mut words = [0; 256];
     for (i, word) in words.iter_mut().enumerate() {
         *word = u16::from_le_bytes([block[2 * i], block[2 * i + 1]]);
     }
+    // Written by place: through `as_chunks_mut`, a proof doesn't learn what the block holds afterwards.
     for (i, word) in words.iter().enumerate() {
         let [low, high] = image(*word).to_le_bytes();
         block[2 * i] = low;

@@ -3,6 +3,7 @@
 // Examples of the codes, and their agreement with one another and with outside vectors.
 #[cfg(test)]
 mod tests {
+    use blocks::Block;
     use codes::{ByteCode, Code, MatrixCode, ShiftCode};
     use generator::judge::judge;
     use generator::record::Generator;
@@ -25,20 +26,23 @@ mod tests {
     }
 
     // A block in which neighbouring bytes differ.
-    fn mixed() -> [u8; 512] {
+    fn mixed() -> Block {
         let mut block = [0; 512];
-        let mut byte: u8 = 1;
-        for i in 0..512 {
-            block[i] = byte;
-            byte = byte.wrapping_mul(5).wrapping_add(77);
+        let mut next: u8 = 1;
+        for byte in block.iter_mut() {
+            *byte = next;
+            next = next.wrapping_mul(5).wrapping_add(77);
         }
         block
     }
 
-    fn same(rt: &impl Abort, a: &[u8; 512], b: &[u8; 512]) {
-        for i in 0..512 {
-            assert_eq!(rt; a[i], b[i]);
-        }
+    // The matrix multiplies a block as the code does.
+    fn same_blocks(rt: &impl Abort, matrix: &MatrixCode, code: &impl Code) {
+        let mut a = mixed();
+        let mut b = mixed();
+        matrix.multiply_block(&mut a);
+        code.multiply_block(&mut b);
+        assert_eq!(rt; a, b);
     }
 
     #[test]
@@ -60,8 +64,8 @@ mod tests {
         assert_eq!(rt; ByteCode.multiply(0x80, 1), 0x1d);
         assert_eq!(rt; ByteCode.multiply(0xff00, 9), 0);
         assert_eq!(rt; ByteCode.multiply(0x1280, 256), 0x1d);
-        for i in 0..48 {
-            assert_eq!(rt; ByteCode.multiply(1, i as u32), OUTSIDE[i]);
+        for (exponent, power) in (0..).zip(OUTSIDE) {
+            assert_eq!(rt; ByteCode.multiply(1, exponent), power);
         }
     }
 
@@ -73,11 +77,7 @@ mod tests {
         ];
         let matrix = code_of(16, 17, &rows)?;
         assert_eq!(rt; matrix.multiply(0x8001, 20), ShiftCode.multiply(0x8001, 20));
-        let mut a = mixed();
-        let mut b = mixed();
-        matrix.multiply_block(&mut a);
-        ShiftCode.multiply_block(&mut b);
-        same(&rt, &a, &b);
+        same_blocks(&rt, &matrix, &ShiftCode);
         Ok(())
     }
 
@@ -85,11 +85,7 @@ mod tests {
     fn bytes_as_a_matrix(rt: HostRuntime) -> Result<(), Fail> {
         let matrix = code_of(8, 255, &[0x80, 1, 0x82, 0x84, 0x88, 0x10, 0x20, 0x40])?;
         assert_eq!(rt; matrix.multiply(0xabcd, 700), ByteCode.multiply(0xcd, 700));
-        let mut a = mixed();
-        let mut b = mixed();
-        matrix.multiply_block(&mut a);
-        ByteCode.multiply_block(&mut b);
-        same(&rt, &a, &b);
+        same_blocks(&rt, &matrix, &ByteCode);
         Ok(())
     }
 
@@ -101,7 +97,7 @@ mod tests {
         assert_eq!(rt; four.multiply_byte(0x81), 0xf2);
         let mut block = [0x81; 512];
         four.multiply_block(&mut block);
-        same(&rt, &block, &[0xf2; 512]);
+        assert_eq!(rt; block, [0xf2; 512]);
         Ok(())
     }
 
@@ -112,7 +108,7 @@ mod tests {
         assert_eq!(rt; three.multiply_byte(0x81), 0x81);
         let mut block = mixed();
         three.multiply_block(&mut block);
-        same(&rt, &block, &mixed());
+        assert_eq!(rt; block, mixed());
         Ok(())
     }
 }

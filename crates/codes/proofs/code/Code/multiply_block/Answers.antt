@@ -1,25 +1,9 @@
-use Rattle.std.proofs.Common.{rules, ◌≡◌, ℕ, ◌%◌, ◌^◌, ◌<◌, sym, ap, ◌∙◌, subst, mod-eq_of_lt, arith}
+use Rattle.std.proofs.Common.{rules, ◌≡◌, ℕ, ◌%◌, ◌^◌, ◌<◌, sym, ap, ◌∙◌, mod-eq_of_lt}
 use Rattle.cyclic.specs.Maps.{power}
 use Rattle.codes.specs.Blocks.{word}
-use Rattle.codes.proofs.Passes.{BytesDone, bytes_more, bytes_all, words_all}
+use Rattle.codes.proofs.Passes.{bytes_all, words_all}
 use Rattle.codes.proofs.Words.{word_below}
 use Rattle.codes.proofs.code.Code.multiply_block.Goals as goal
-
-pub loop-byte-preserved : goal.loop-byte-preserved
-loop-byte-preserved g c =
-    let code = g.Self.Code in
-    let self = c.args.self.now in
-    bytes_more (code.bits self) (code.map self) c.args.block.now c.loop-byte.block c.loop-byte.byte-index c.multiply_byte.result
-    (omega (arith, c.told-block, c.loop-byte-test.true)) c.loop-byte.invariant c.multiply_byte.ensures
-
-pub returns-after-loop-byte : goal.returns-after-loop-byte
-returns-after-loop-byte g c =
-    let code = g.Self.Code in
-    let self = c.args.self.now in
-    let end : c.loop-byte.byte-index ≡ 512 = omega (arith, c.loop-byte.auto.byte-index-end, c.loop-byte-test.false) in
-    bytes_all (code.bits self) (code.map self) c.args.block.now c.loop-byte.block c.told-block
-    (λ is_16. c.if-width-eq16.false (c.width.ensures ∙ is_16))
-    (subst (BytesDone (code.bits self) (code.map self) c.args.block.now c.loop-byte.block) end c.loop-byte.invariant)
 
 pub returns-then-width-eq16 : goal.returns-then-width-eq16
 returns-then-width-eq16 g c =
@@ -35,3 +19,11 @@ returns-then-width-eq16 g c =
     once : (n N : ℕ) (h : ℕ → ℕ) → 1 < N → n ≡ 16 → (w word : ℕ) → word < 2 ^ 16 → w ≡ power h (1 % N) (word % 2 ^ n) → w ≡ h word
     once n N h more wide w word small is =
         is ∙ ap (λ k. power h k (word % 2 ^ n)) (mod-eq_of_lt more) ∙ ap (λ m. h (word % 2 ^ m)) wide ∙ ap h (mod-eq_of_lt small)
+
+pub returns-else-width-eq16 : goal.returns-else-width-eq16
+returns-else-width-eq16 g c =
+    let code = g.Self.Code in
+    let self = c.args.self.now in
+    bytes_all (code.bits self) (code.map self) c.args.block.now c.map_bytes.new.block c.told-block c.map_bytes.array_long
+    (λ is_16. c.if-width-eq16.false (c.width.ensures ∙ is_16))
+    (λ k lt. search (rules, c.map_bytes.ensures.images k lt))

@@ -1,11 +1,8 @@
 use Rattle.std.proofs.Common.{◌≡◌, ℕ, ◌%◌, ◌^◌, ap, ◌∙◌, arith}
 use Rattle.cyclic.specs.Maps.{power}
 use Rattle.generator.specs.Matrix.{image}
-use Rattle.codes.specs.Matrices.{low_bits, power_more}
+use Rattle.codes.specs.Matrices.{low_bits}
 use Rattle.codes.proofs.matrix_code.MatrixCodeCode.multiply.Goals as goal
-
-pub loop-preserved : goal.loop-preserved
-loop-preserved c = power_more (image c.rows-rows.result) c.loop.counter _ c.loop.product _ c.loop.invariant c.image-product.ensures
 
 pub returns : goal.returns
 returns c =
