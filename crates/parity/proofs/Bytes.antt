@@ -1,10 +1,8 @@
 -- A map that keeps to bytes maps a unit by its two bytes.
-use Rattle.std.proofs.Common.{◌≡◌, ℕ, zero, suc, ◌+◌, ◌-◌, ◌*◌, ◌/◌, ◌%◌, ◌^◌, ◌<◌, List, length, get_or, sym, refl, ap, ◌∙◌, subst, ⊎_elim, add-zero, mod-eq_of_lt, mul_assoc, zero-add, arith, lit<}
+use Rattle.std.proofs.Common.{◌≡◌, ℕ, zero, suc, ◌+◌, ◌-◌, ◌*◌, ◌/◌, ◌%◌, ◌^◌, ◌<◌, List, get_or, sym, refl, ap, ◌∙◌, add-zero, mod-eq_of_lt, mul_assoc, zero-add, arith, lit<}
 use lib.Bits.{xor_block, xor_zero_l, xor_zero_r}
 use lib.Pow.{mod-mod-pow}
 use Rattle.std.proofs.lemmas.Nat.{shr-shr, shr_high, mod_low, field_of}
-use Rattle.std.proofs.lemmas.List.{get_or_past}
-use Rattle.std.proofs.lemmas.Bool.{cases_lt}
 use Rattle.cyclic.specs.Maps.{◌⊕◌, sum}
 use Rattle.cyclic.proofs.Horner.{sum_split}
 use Rattle.cyclic.proofs.Shares.{sum_words_below}
@@ -67,12 +65,6 @@ module _ (low images : List ℕ) (keeps : Bytewise low images) where
       ∙ ap (λ s. s ⊕ sum 8 (λ t. bits (8 + t))) lower
       ∙ ap (λ s. sum 8 (term x) ⊕ s) upper
       ∙ beside (sum 8 (term x)) (sum 8 (term y)) (byte_below x)
-
-  pub bytes_below : (before after : List ℕ) → length after ≡ 512 → ((k : ℕ) → k < 512 → get_or after k 0 ≡ combined_byte low (get_or before k 0))
-      → (k : ℕ) → get_or after k 0 < 256
-  bytes_below before after la all k =
-      ⊎_elim (λ lt. subst (λ v. v < 256) (sym (all k lt)) (byte_below (get_or before k 0)))
-      (λ ge. subst (λ v. v < 256) (sym (get_or_past after k 0 (omega (arith, la)))) (lit< tt)) (cases_lt k 512)
 
   -- a pass over the bytes is a pass over the units
   pub bytes_units : (before after : List ℕ) → ((k : ℕ) → get_or before k 0 < 256) → ((k : ℕ) → get_or after k 0 < 256)
