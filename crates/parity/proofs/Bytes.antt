@@ -1,10 +1,8 @@
 -- A map that keeps to bytes maps a unit by its two bytes.
-use Rattle.std.proofs.Common.{◌≡◌, ℕ, zero, suc, ◌+◌, ◌-◌, ◌*◌, ◌/◌, ◌%◌, ◌^◌, ◌<◌, ◌≤◌, ◌≢◌, List, length, get_or, set, sym, refl, ap, ◌∙◌, subst, ⊎_elim, add-zero, mod-eq_of_lt, mul_assoc, zero-add, arith, lit<, length-set, get_or-set_other, get_or-set_same}
+use Rattle.std.proofs.Common.{◌≡◌, ℕ, zero, suc, ◌+◌, ◌-◌, ◌*◌, ◌/◌, ◌%◌, ◌^◌, ◌<◌, List, get_or, sym, refl, ap, ◌∙◌, add-zero, mod-eq_of_lt, mul_assoc, zero-add, arith, lit<}
 use lib.Bits.{xor_block, xor_zero_l, xor_zero_r}
 use lib.Pow.{mod-mod-pow}
 use Rattle.std.proofs.lemmas.Nat.{shr-shr, shr_high, mod_low, field_of}
-use Rattle.std.proofs.lemmas.List.{get_or_past}
-use Rattle.std.proofs.lemmas.Bool.{cases_eq, cases_lt}
 use Rattle.cyclic.specs.Maps.{◌⊕◌, sum}
 use Rattle.cyclic.proofs.Horner.{sum_split}
 use Rattle.cyclic.proofs.Shares.{sum_words_below}
@@ -68,12 +66,6 @@ module _ (low images : List ℕ) (keeps : Bytewise low images) where
       ∙ ap (λ s. sum 8 (term x) ⊕ s) upper
       ∙ beside (sum 8 (term x)) (sum 8 (term y)) (byte_below x)
 
-  pub bytes_below : (before after : List ℕ) → length after ≡ 512 → ((k : ℕ) → k < 512 → get_or after k 0 ≡ combined_byte low (get_or before k 0))
-      → (k : ℕ) → get_or after k 0 < 256
-  bytes_below before after la all k =
-      ⊎_elim (λ lt. subst (λ v. v < 256) (sym (all k lt)) (byte_below (get_or before k 0)))
-      (λ ge. subst (λ v. v < 256) (sym (get_or_past after k 0 (omega (arith, la)))) (lit< tt)) (cases_lt k 512)
-
   -- a pass over the bytes is a pass over the units
   pub bytes_units : (before after : List ℕ) → ((k : ℕ) → get_or before k 0 < 256) → ((k : ℕ) → get_or after k 0 < 256)
       → ((k : ℕ) → k < 512 → get_or after k 0 ≡ combined_byte low (get_or before k 0))
@@ -87,24 +79,3 @@ module _ (low images : List ℕ) (keeps : Bytewise low images) where
       ∙ sym (of_bytes x y (fb (2 * u)))
       ∙ ap (combined images)
       (ap (λ v. v * 256 + x) (sym (mod-eq_of_lt (fb (2 * u + 1)))) ∙ ap (λ v. y % 256 * 256 + v) (sym (mod-eq_of_lt (fb (2 * u)))) ∙ sym (word_16 u before))
-
--- the bytes below j are mapped, and the others as they were
-pub record Mapped (g : ℕ → ℕ) (before after : List ℕ) (j : ℕ) : Type 0 where
-  pub long : length after ≡ length before
-  pub done : (k : ℕ) → k < j → get_or after k 0 ≡ g (get_or before k 0)
-  pub rest : (k : ℕ) → j ≤ k → get_or after k 0 ≡ get_or before k 0
-
-pub mapped_more : (g : ℕ → ℕ) (before after : List ℕ) (j r : ℕ) → j < length before → Mapped g before after j → r ≡ g (get_or after j 0)
-    → Mapped g before (set after j r) (j + 1)
-mapped_more g before after j r lt so_far is =
-    record {
-      long = length-set after j r ∙ so_far.long;
-      done = λ k below.
-          ⊎_elim
-          (λ e.
-          subst (λ i. get_or (set after j r) i 0 ≡ g (get_or before i 0)) (sym e)
-          (get_or-set_same after j r 0 (omega (arith, so_far.long)) ∙ is ∙ ap g (so_far.rest j (omega arith))))
-          (λ ne. get_or-set_other after j k r 0 ne ∙ so_far.done k (omega arith))
-          (cases_eq k j);
-      rest = λ k above. let ne : k ≢ j = λ e. omega arith in get_or-set_other after j k r 0 ne ∙ so_far.rest k (omega arith);
-    }

@@ -5,7 +5,7 @@ ghost use Rattle.codes.specs.Blocks.{FillsBlock, Multiplied, word as word_of};
 ghost use Rattle.parity.specs.WordMaps.{combined, combined_byte, Bytewise, Spread, Prepares};
 
 use blocks::Block;
-use codes::{Code, map_words};
+use codes::{Code, map_bytes, map_words};
 use std::array;
 
 // A linear map of words, known by its images of the unit words, so that applying it costs the same for every map. It goes over a block by
@@ -42,7 +42,8 @@ fn even_powers<C: Code>(code: &C, z: u8, word: u16) -> u16
     sum
 }
 
-// The image of a byte, branch-free, from those of its bits.
+// The image of a byte, branch-free, from those of its bits. `WordMap::image` is the same of a unit: one function of both would need a trait
+// with laws for `>>`, `*` and `^`, and bytes mapped as units take half as long again.
 fn byte_image(images: &[u8; 8], byte: u8) -> u8
     ensures { result ≡ combined_byte images.now byte }
 {
@@ -51,15 +52,6 @@ fn byte_image(images: &[u8; 8], byte: u8) -> u8
         sum ^= (byte >> b & 1) * *image;
     }
     sum
-}
-
-// Maps every byte of the block. This takes half the steps that its units would.
-fn apply_bytes(images: &[u8; 8], block: &mut Block)
-    ensures { (k : ℕ) → k < 512 → slice_index block.new k ≡ combined_byte images.now (slice_index block.old k) }
-{
-    for byte in block {
-        *byte = byte_image(images, *byte);
-    }
 }
 
 impl WordMap {
@@ -129,7 +121,7 @@ impl WordMap {
         ensures { (n : ℕ) (f : ℕ → ℕ) → Prepares n f self.now.images → Multiplied n f block.old block.new }
     {
         match self.byte_images() {
-            Some(images) => apply_bytes(&images, block),
+            Some(images) => map_bytes(block, |byte| byte_image(&images, byte)),
             None => map_words(block, |unit| self.image(unit)),
         }
     }
