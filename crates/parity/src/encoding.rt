@@ -10,7 +10,7 @@ use refusals::Refusal;
 
 // Whether so many drives and the code fit: 3 to 32 drives, words that fill a block, and no more data columns than the code's order.
 pub fn fits<C: Code>(code: &C, drives: u16) -> bool
-    ensures { MatchBool result (Fits drives (C.Code.bits code.now) (C.Code.period code.now)) (Fits drives (C.Code.bits code.now) (C.Code.period code.now) → ⊥) }
+    ensures { MatchBool result (Fits drives (C.bits code.now) (C.period code.now)) (Fits drives (C.bits code.now) (C.period code.now) → ⊥) }
 {
     (3..=u16::from(MAX_DRIVES)).contains(&drives)
         && fills_block(code.width())
@@ -25,7 +25,7 @@ pub fn encode<C: Code>(
     p: &mut [u8],
     q: &mut [u8],
 ) -> Result<(), Refusal>
-    ensures { EncodeAnswer (C.Code.bits code.now) (C.Code.period code.now) (C.Code.map code.now) k «data».now p.old q.old result p.new q.new }
+    ensures { EncodeAnswer (C.bits code.now) (C.period code.now) (C.map code.now) k «data».now p.old q.old result p.new q.new }
 {
     if !fits(code, u16::from(k) + 2) {
         return Err(Refusal::DoesNotFit);

@@ -28,7 +28,7 @@ impl Sums {
 
     // The next column down holds this block.
     pub fn absorb<C: Code>(&mut self, code: &C, block: &Block)
-        ensures { Absorbed (C.Code.bits code.now) (C.Code.map code.now) self.old block.now self.new }
+        ensures { Absorbed (C.bits code.now) (C.map code.now) self.old block.now self.new }
     {
         add(&mut self.p, block);
         self.skip(code);
@@ -37,7 +37,7 @@ impl Sums {
 
     // The next column down is missing, and counts as zero.
     pub fn skip<C: Code>(&mut self, code: &C)
-        ensures { Skipped (C.Code.bits code.now) (C.Code.map code.now) self.old self.new }
+        ensures { Skipped (C.bits code.now) (C.map code.now) self.old self.new }
     {
         code.multiply_block(&mut self.q);
     }

@@ -24,8 +24,8 @@ pub fn fills_block(width: u16) -> bool
 
 // g to the powers 0, 2z, 4z and on to (N - 1) z, summed, times the word. The number of terms is doubled, and raised by one, by its bits from the top.
 fn even_powers<C: Code>(code: &C, z: u8, word: u16) -> u16
-    requires { word < 2 ^ C.Code.bits code.now }
-    ensures { result ≡ undo (C.Code.period code.now) (C.Code.map code.now) z word }
+    requires { word < 2 ^ C.bits code.now }
+    ensures { result ≡ undo (C.period code.now) (C.map code.now) z word }
 {
     let terms = (u32::from(code.order()) - 1) / 2 + 1;
     let step = 2 * u32::from(z);
@@ -78,14 +78,14 @@ impl WordMap {
 
     // The multiplication by g to the exponent.
     pub fn power<C: Code>(code: &C, exponent: u32) -> WordMap
-        ensures { Prepares (C.Code.bits code.now) (power (C.Code.map code.now) (exponent % C.Code.period code.now)) result.images }
+        ensures { Prepares (C.bits code.now) (power (C.map code.now) (exponent % C.period code.now)) result.images }
     {
         WordMap::of(code.width(), |word| code.multiply(word, exponent))
     }
 
     // The map that undoes 1 + g^z: the sum of g to the powers 0, 2z, 4z and on to (N - 1) z.
     pub fn undo<C: Code>(code: &C, z: u8) -> WordMap
-        ensures { Prepares (C.Code.bits code.now) (undo (C.Code.period code.now) (C.Code.map code.now) z) result.images }
+        ensures { Prepares (C.bits code.now) (undo (C.period code.now) (C.map code.now) z) result.images }
     {
         WordMap::of(code.width(), |word| even_powers(code, z, word))
     }
