@@ -1,6 +1,5 @@
 -- A byte put together from the images of its words, from the low bits up.
-use Rattle.std.proofs.Common.{◌≡◌, ℕ, ◌+◌, ◌-◌, ◌*◌, ◌/◌, ◌%◌, ◌^◌, ◌<◌, ◌≤◌, sym, refl, ap, ◌∙◌, subst, ⊎_elim, mod-eq_of_lt, add_comm, arith, lit<, pow_pos, pow-add, shl_lt, shl_exact}
-use native.Mathlib.Nat.{zero-mod}
+use Rattle.std.proofs.Common.{◌≡◌, ℕ, ◌+◌, ◌-◌, ◌*◌, ◌/◌, ◌%◌, ◌^◌, ◌<◌, ◌≤◌, sym, refl, ap, ◌∙◌, subst, ⊎_elim, mod-eq_of_lt, add_comm, arith, pow_pos, pow-add, shl_lt, shl_exact}
 use lib.Bits.{bit_or, or_shifted_r}
 use lib.Arith.{digits_lt}
 use lib.Pow.{mod-mod-pow, low}
@@ -102,13 +101,6 @@ module _ (n N : ℕ) (g : ℕ → ℕ) (more : 1 < N) (law : Lawful n N g) (byte
         at s es ls ge =
             ⊎_elim (λ e. e) (λ ne. absurd (omega (arith, apart n place s built.fills built.even es (omega arith)))) (cases_eq s place)
 
-pub start : (n : ℕ) (g : ℕ → ℕ) (byte : ℕ) → FillsByte n → Built n g byte 0 0
-start n g byte fills =
-    record { fills = fills; even = zero-mod n; within = omega arith; small = lit< tt; done = λ s es ls. absurd (omega arith) }
-
 pub whole : (n : ℕ) (g : ℕ → ℕ) (byte image place : ℕ) → Built n g byte image place → 8 ≤ place → MultipliedByte n g byte image
 whole n g byte image place built end =
     record { words = λ fills s es ls. built.done s es (omega arith); same = λ no_words. absurd (no_words built.fills) }
-
-pub other : (n : ℕ) (g : ℕ → ℕ) (byte : ℕ) → (FillsByte n → ⊥) → MultipliedByte n g byte byte
-other n g byte no_words = record { words = λ fills. absurd (no_words fills); same = λ h. refl }
