@@ -1,27 +1,13 @@
 -- The two sums over the columns that have gone by.
-use Rattle.std.proofs.Common.{◌≡◌, ℕ, suc, ◌+◌, ◌*◌, ◌^◌, ◌<◌, List, replicate, sym, ap, ◌∙◌, subst, add-zero, zero-add, arith}
+use Rattle.std.proofs.Common.{◌≡◌, ℕ, suc, ◌+◌, ◌*◌, ◌^◌, ◌<◌, List, replicate, sym, ap, ◌∙◌, add-zero, zero-add, arith}
 use lib.Bits.{xor_comm}
 use Rattle.cyclic.specs.Maps.{◌⊕◌, sum, power, Linear}
 use Rattle.cyclic.proofs.Sums.{sum_same}
 use Rattle.cyclic.proofs.Horner.{sum_front, horner}
 use Rattle.codes.specs.Blocks.{word, FillsBlock}
 use Rattle.parity.specs.declared.sums.Sums.{Sums}
-use Rattle.parity.specs.Blocks.{Added}
 use Rattle.parity.specs.Sums.{Absorbed, Skipped}
 use Rattle.parity.proofs.Additions.{zero_words}
-
--- the block is added to p, and after the multiplication to q
-pub absorbed : (n : ℕ) (g : ℕ → ℕ) (before added turned after : Sums) (block : List ℕ)
-    → Added before.p block added.p → added.q ≡ before.q → Skipped n g added turned
-    → Added turned.q block after.q → after.p ≡ turned.p → Absorbed n g before block after
-absorbed n g before added turned after block to_p same_q turn to_q same_p =
-    record {
-      p = subst (λ p. Added before.p block p) (sym (same_p ∙ turn.p)) to_p;
-      q = λ fills i inside.
-          to_q.words n i
-          ∙ ap (λ w. w ⊕ word n block i) (turn.q.words fills i inside ∙ ap (λ q. g (word n q i)) same_q);
-      other = λ no_words. subst (λ q. Added q block after.q) (turn.q.same no_words ∙ same_q) to_q;
-    }
 
 -- The m columns from column k up have gone by: `column j i` is word i of column j, zero where the column is missing.
 pub record Summed (n : ℕ) (g : ℕ → ℕ) (column : ℕ → ℕ → ℕ) (k m : ℕ) (sums : Sums) : Type 0 where

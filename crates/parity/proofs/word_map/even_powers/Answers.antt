@@ -1,16 +1,6 @@
-use Rattle.std.proofs.Common.{ℕ, ◌+◌, ◌-◌, ◌*◌, ◌/◌, ◌≤◌, arith}
-use Rattle.std.proofs.lemmas.Nat.{mul-le, shr_le}
+use Rattle.std.proofs.Common.{◌+◌, ◌-◌, ◌*◌, ◌/◌, arith}
 use Rattle.parity.proofs.Evens.{clear, set}
 use Rattle.parity.proofs.word_map.even_powers.Goals as goal
-
-pub overflow_mul-count : goal.overflow_mul-count
-overflow_mul-count g c =
-    let terms : ℕ = (c.from.result - 1) / 2 + 1 in
-    let few : c.loop-place.count ≤ 128 =
-    omega (arith, c.loop-place.invariant.0, shr_le terms c.loop-place.place, c.order.ensures, (g.met.C.Code.turns c.args.code.now).1) in
-    let step : ℕ = 2 * c.from-step.result in
-    let small : step ≤ 510 = omega arith in
-    record { fits = omega (arith, mul-le c.loop-place.count step 128 510 few small) }
 
 pub loop-place-preserved : goal.loop-place-preserved
 loop-place-preserved g c =
