@@ -1,22 +1,21 @@
 -- A rack that is a part of a larger one: what a call does to the part, it does to the whole.
 use Rattle.std.proofs.Common.{◌≡◌, ℕ, ◌+◌, ◌-◌, ◌<◌, ◌≤◌, min, Bool, true, false, cond, ltb, ◌⊎◌, List, length, Ok, Err, Result, sym, refl, ap, ◌∙◌, subst, inl, inr, arith}
-use Rattle.std.specs.Prelude.{◌==◌, nat_le}
-use Rattle.std.proofs.lemmas.Bool.{cond-true, cond-false, cases_lt, lt-ltb, le-ltb, and_parts, eqb-true}
+use Rattle.std.proofs.lemmas.Bool.{cond-true, cond-false, cases_lt, lt-ltb, le-ltb}
 use Rattle.refusals.specs.declared.Refusal.{Refusal}
 use Rattle.refusals.specs.declared.Refusal.TheVariants.{NoDrive, NotLive, DriveLive}
 use Rattle.racks.specs.declared.DriveState.{DriveState}
 use Rattle.racks.specs.declared.DriveState.TheVariants.{Live}
 use Rattle.racks.specs.Meaning.{Meaning, SameDrive, SameBut, Same}
-use Rattle.racks.specs.Calls.{Lawful, no_drive, no_block, buffer_size, Refused, unlawful, not_live, fails, StateAnswer, Read, ReadAnswer, Written, WriteAnswer, FitRefused, FitAnswer, PullAnswer}
+use Rattle.racks.specs.Calls.{no_drive, no_block, buffer_size, Refused, unlawful, not_live, fails, StateAnswer, Read, ReadAnswer, Written, WriteAnswer, FitRefused, FitAnswer, PullAnswer}
 use Rattle.racks.specs.declared.joined.Side.{Side}
 use Rattle.racks.specs.declared.joined.Side.TheVariants.{First, Second}
-use Rattle.racks.specs.Joined.{agree, joined, SideAnswer, Renumbered, Renumbers}
+use Rattle.racks.specs.Joined.{joined, SideAnswer, Renumbered, Renumbers}
 
 -- The drives of m are the drives o, o + 1, .. of M, before a call and after it, and the call leaves the others alone.
 pub record Part (o : ℕ) (m m' M M' : Meaning) : Type 0 where
   pub drives : M'.drives ≡ M.drives
   pub blocks : M'.blocks ≡ M.blocks
-  pub depth : M.blocks ≡ m.blocks
+  pub fewer : M.blocks ≤ m.blocks
   pub state : (k : ℕ) → k < m.drives → M.state (o + k) ≡ m.state k
   pub state' : (k : ℕ) → k < m.drives → M'.state (o + k) ≡ m'.state k
   pub block : (k b : ℕ) → k < m.drives → M.block (o + k) b ≡ m.block k b
@@ -37,7 +36,7 @@ module _ (o : ℕ) (m m' M M' : Meaning) (part : m'.drives ≡ m.drives → m'.b
   drive_there : Part o m m' M M' → (k : ℕ) → k < m.drives → SameDrive m m' k → SameDrive M M' (o + k)
   drive_there p k hk s = record {
     state = p.state' k hk ∙ s.state ∙ sym (p.state k hk);
-    contents = λ live b hb. p.block' k b hk ∙ s.contents (sym (p.state k hk) ∙ live) b (omega (arith, p.depth)) ∙ sym (p.block k b hk);
+    contents = λ live b hb. p.block' k b hk ∙ s.contents (sym (p.state k hk) ∙ live) b (omega (arith, p.fewer)) ∙ sym (p.block k b hk);
   }
 
   same_there : Same m m' → Same M M'
@@ -85,49 +84,43 @@ module _ (o : ℕ) (m m' M M' : Meaning) (part : m'.drives ≡ m.drives → m'.b
     not_live_there : Part o m m' M M' → (m.state d ≡ Live → ⊥) → M.state e ≡ Live → ⊥
     not_live_there p dead live = dead (sym (state_there p) ∙ live)
 
-    -- What is lawful for the part is lawful for the whole.
-    lawful_there : Part o m m' M M' → (b n : ℕ) → Lawful m.drives m.blocks d b n → Lawful M.drives M.blocks e b n
-    lawful_there p b n ok = record { drive = he; block = omega (arith, ok.block, p.depth); size = ok.size }
-
-    refused_there : (b n : ℕ) (x y : Refusal) → Renumbered d e x y → Refused m d b n x m' → Refused M e b n y M'
-    refused_there b n x y r (unlawful (no_drive is beyond) s) = let z : ⊥ = omega arith in absurd z
-    refused_there b n x y r (unlawful (no_block is h beyond) s) =
+    refused_there : (b n : ℕ) (x y : Refusal) → b < M.blocks → Renumbered d e x y → Refused m d b n x m' → Refused M e b n y M'
+    refused_there b n x y hb r (unlawful (no_drive is beyond) s) = let z : ⊥ = omega arith in absurd z
+    refused_there b n x y hb r (unlawful (no_block is h beyond) s) =
+        let p = part s.drives s.blocks in let z : ⊥ = omega (arith, p.fewer) in absurd z
+    refused_there b n x y hb r (unlawful (buffer_size is h h' size) s) =
+        unlawful (buffer_size (r.buffer_size is) he hb size) (same_there s)
+    refused_there b n x y hb r (not_live is ok dead s) =
         let p = part s.drives s.blocks in
-        unlawful (no_block (r.no_block b is) he (omega (arith, p.depth))) (same_there s)
-    refused_there b n x y r (unlawful (buffer_size is h h' size) s) =
-        let p = part s.drives s.blocks in
-        unlawful (buffer_size (r.buffer_size is) he (omega (arith, p.depth)) size) (same_there s)
-    refused_there b n x y r (not_live is ok dead s) =
-        let p = part s.drives s.blocks in
-        not_live (r.not_live b is) (lawful_there p b n ok) (not_live_there p dead) (same_there s)
-    refused_there b n x y r (fails is ok now) =
+        not_live (r.not_live b is) (record { drive = he; block = hb; size = ok.size }) (not_live_there p dead) (same_there s)
+    refused_there b n x y hb r (fails is ok now) =
         let p = part now.rest.drives now.rest.blocks in
-        fails (r.not_live b is) (lawful_there p b n ok)
+        fails (r.not_live b is) (record { drive = he; block = hb; size = ok.size })
         (record {
           live = state_there p ∙ now.live;
           failed = state_after p ∙ now.failed;
           rest = rest_there now.rest;
         })
 
-    read_there : (b : ℕ) (buf buf' : List ℕ) → Read m d b buf m' buf' → Read M e b buf M' buf'
-    read_there b buf buf' a =
+    read_there : (b : ℕ) (buf buf' : List ℕ) → b < M.blocks → Read m d b buf m' buf' → Read M e b buf M' buf'
+    read_there b buf buf' hb a =
         let p = part a.same.drives a.same.blocks in
         record {
-          lawful = lawful_there p b (length buf) a.lawful;
+          lawful = record { drive = he; block = hb; size = a.lawful.size };
           live = state_there p ∙ a.live;
           fills = a.fills ∙ sym (block_there p b);
           same = same_there a.same;
         }
 
-    written_there : (b : ℕ) (buf : List ℕ) → Written m d b buf m' → Written M e b buf M'
-    written_there b buf a =
+    written_there : (b : ℕ) (buf : List ℕ) → b < M.blocks → Written m d b buf m' → Written M e b buf M'
+    written_there b buf hb a =
         let p = part a.rest.drives a.rest.blocks in
         record {
-          lawful = lawful_there p b (length buf) a.lawful;
+          lawful = record { drive = he; block = hb; size = a.lawful.size };
           live = state_there p ∙ a.live;
           stays = state_after p ∙ a.stays;
           stored = block_after p b ∙ a.stored;
-          kept = λ k hk ne. block_after p k ∙ a.kept k (omega (arith, p.depth)) ne ∙ sym (block_there p k);
+          kept = λ k hk ne. block_after p k ∙ a.kept k (omega (arith, p.fewer)) ne ∙ sym (block_there p k);
           rest = rest_there a.rest;
         }
 
@@ -141,17 +134,17 @@ module _ (o : ℕ) (m m' M M' : Meaning) (part : m'.drives ≡ m.drives → m'.b
         FitRefused.fails (r.not_live 0 is) he (not_live_there p dead) (state_after p ∙ failed) (rest_there s)
 
     -- The whole hands on the answer of its part, but that a fault speaks of the drive by its number here.
-    pub read_answer : (b : ℕ) (buf buf' : List ℕ) (r s : Result Unit Refusal) → Renumbers d e r s → ReadAnswer m d b buf r m' buf' → ReadAnswer M e b buf s M' buf'
-    read_answer b buf buf' (Ok _) (Ok _) is a = read_there b buf buf' a
-    read_answer b buf buf' (Err x) (Err y) is a = (a.0, refused_there b (length buf) x y is a.1)
-    read_answer b buf buf' (Ok _) (Err y) is a = elim is [ ]
-    read_answer b buf buf' (Err x) (Ok _) is a = elim is [ ]
+    pub read_answer : (b : ℕ) (buf buf' : List ℕ) (r s : Result Unit Refusal) → b < M.blocks → Renumbers d e r s → ReadAnswer m d b buf r m' buf' → ReadAnswer M e b buf s M' buf'
+    read_answer b buf buf' (Ok _) (Ok _) hb is a = read_there b buf buf' hb a
+    read_answer b buf buf' (Err x) (Err y) hb is a = (a.0, refused_there b (length buf) x y hb is a.1)
+    read_answer b buf buf' (Ok _) (Err y) hb is a = elim is [ ]
+    read_answer b buf buf' (Err x) (Ok _) hb is a = elim is [ ]
 
-    pub write_answer : (b : ℕ) (buf : List ℕ) (r s : Result Unit Refusal) → Renumbers d e r s → WriteAnswer m d b buf r m' → WriteAnswer M e b buf s M'
-    write_answer b buf (Ok _) (Ok _) is a = written_there b buf a
-    write_answer b buf (Err x) (Err y) is a = refused_there b (length buf) x y is a
-    write_answer b buf (Ok _) (Err y) is a = elim is [ ]
-    write_answer b buf (Err x) (Ok _) is a = elim is [ ]
+    pub write_answer : (b : ℕ) (buf : List ℕ) (r s : Result Unit Refusal) → b < M.blocks → Renumbers d e r s → WriteAnswer m d b buf r m' → WriteAnswer M e b buf s M'
+    write_answer b buf (Ok _) (Ok _) hb is a = written_there b buf hb a
+    write_answer b buf (Err x) (Err y) hb is a = refused_there b (length buf) x y hb is a
+    write_answer b buf (Ok _) (Err y) hb is a = elim is [ ]
+    write_answer b buf (Err x) (Ok _) hb is a = elim is [ ]
 
     pub fit_answer : (r s : Result Unit Refusal) → Renumbers d e r s → FitAnswer m d r m' → FitAnswer M e s M'
     fit_answer (Ok _) (Ok _) is a =
@@ -204,25 +197,25 @@ module _ (agreed : Bool) (m n : Meaning) where
   high_block : (k b : ℕ) → m.drives ≤ k → (joined agreed m n).block k b ≡ n.block (k - m.drives) b
   high_block k b h = ap (λ t. t b) (cond-false (ltb k m.drives) (m.block k) (n.block (k - m.drives)) (le-ltb k m.drives h))
 
--- Two racks that agree have one number of blocks.
-both_depths : (agreed : Bool) (m n : Meaning) (d : ℕ) → agreed ≡ agree m n → d < (joined agreed m n).drives →
-    ((joined agreed m n).blocks ≡ m.blocks) × ((joined agreed m n).blocks ≡ n.blocks)
-both_depths false m n d found h = let z : ⊥ = omega arith in absurd z
-both_depths true m n d found h =
-    let same = eqb-true m.blocks n.blocks (and_parts (m.blocks == n.blocks) (nat_le (m.drives + n.drives) 32) (sym found)).0 in
-    (omega (arith, same), omega (arith, same))
+blocks_first : (agreed : Bool) (m n : Meaning) → (joined agreed m n).blocks ≤ m.blocks
+blocks_first true m n = omega arith
+blocks_first false m n = omega arith
+
+blocks_second : (agreed : Bool) (m n : Meaning) → (joined agreed m n).blocks ≤ n.blocks
+blocks_second true m n = omega arith
+blocks_second false m n = omega arith
 
 drives_both : (agreed : Bool) (m n : Meaning) → (joined agreed m n).drives ≤ m.drives + n.drives
 drives_both true m n = omega arith
 drives_both false m n = omega arith
 
-first_part : (agreed : Bool) (m m' n : Meaning) → (joined agreed m n).blocks ≡ m.blocks → m'.drives ≡ m.drives → m'.blocks ≡ m.blocks → Part 0 m m' (joined agreed m n) (joined agreed m' n)
-first_part agreed m m' n depth eD eB =
+first_part : (agreed : Bool) (m m' n : Meaning) → m'.drives ≡ m.drives → m'.blocks ≡ m.blocks → Part 0 m m' (joined agreed m n) (joined agreed m' n)
+first_part agreed m m' n eD eB =
     let zero_more : (k : ℕ) → 0 + k ≡ k = λ k. omega arith in
     record {
       drives = ap (λ x. cond agreed (min 32 (x + n.drives)) 0) eD;
       blocks = ap (λ x. cond agreed (min x n.blocks) 0) eB;
-      depth = depth;
+      fewer = blocks_first agreed m n;
       state = λ k h. ap (joined agreed m n).state (zero_more k) ∙ low_state agreed m n k h;
       state' = λ k h. ap (joined agreed m' n).state (zero_more k) ∙ low_state agreed m' n k (omega arith);
       block = λ k b h. ap (λ x. (joined agreed m n).block x b) (zero_more k) ∙ low_block agreed m n k b h;
@@ -236,13 +229,13 @@ first_part agreed m m' n depth eD eB =
           };
     }
 
-second_part : (agreed : Bool) (m n n' : Meaning) → (joined agreed m n).blocks ≡ n.blocks → n'.drives ≡ n.drives → n'.blocks ≡ n.blocks → Part m.drives n n' (joined agreed m n) (joined agreed m n')
-second_part agreed m n n' depth eD eB =
+second_part : (agreed : Bool) (m n n' : Meaning) → n'.drives ≡ n.drives → n'.blocks ≡ n.blocks → Part m.drives n n' (joined agreed m n) (joined agreed m n')
+second_part agreed m n n' eD eB =
     let back : (k : ℕ) → m.drives + k - m.drives ≡ k = λ k. omega arith in
     record {
       drives = ap (λ x. cond agreed (min 32 (m.drives + x)) 0) eD;
       blocks = ap (λ x. cond agreed (min m.blocks x) 0) eB;
-      depth = depth;
+      fewer = blocks_second agreed m n;
       state = λ k h. high_state agreed m n (m.drives + k) (omega arith) ∙ ap n.state (back k);
       state' = λ k h. high_state agreed m n' (m.drives + k) (omega arith) ∙ ap n'.state (back k);
       block = λ k b h. high_block agreed m n (m.drives + k) b (omega arith) ∙ ap (λ x. n.block x b) (back k);
@@ -276,48 +269,48 @@ state_second agreed m n d k s told is (Err x) (Err y) a same =
 state_second agreed m n d k s told is (Ok x) (Err y) a same = elim same [ ]
 state_second agreed m n d k s told is (Err x) (Ok y) a same = elim same [ ]
 
-module _ (agreed : Bool) (m m' n : Meaning) (d k : ℕ) (s : Side) (found : agreed ≡ agree m n) (told : SideAnswer agreed m n d (Ok s)) (is : s ≡ First k) where
-  pub read_first : (b : ℕ) (buf buf' : List ℕ) (r : Result Unit Refusal) → ReadAnswer m k b buf r m' buf' → ReadAnswer (joined agreed m n) d b buf r (joined agreed m' n) buf'
-  read_first b buf buf' r =
+module _ (agreed : Bool) (m m' n : Meaning) (d k : ℕ) (s : Side) (told : SideAnswer agreed m n d (Ok s)) (is : s ≡ First k) where
+  pub read_first : (b : ℕ) (buf buf' : List ℕ) (r : Result Unit Refusal) → b < (joined agreed m n).blocks → ReadAnswer m k b buf r m' buf' → ReadAnswer (joined agreed m n) d b buf r (joined agreed m' n) buf'
+  read_first b buf buf' r hb =
       let h = first_side agreed m n d k s told is in
-      read_answer 0 m m' (joined agreed m n) (joined agreed m' n) (first_part agreed m m' n (both_depths agreed m n d found h.2).0) k d h.0 (omega (arith, h.1)) h.2 b buf buf' r r
+      read_answer 0 m m' (joined agreed m n) (joined agreed m' n) (first_part agreed m m' n) k d h.0 (omega (arith, h.1)) h.2 b buf buf' r r hb
       (same_number k d r h.1)
 
-  pub write_first : (b : ℕ) (buf : List ℕ) (r : Result Unit Refusal) → WriteAnswer m k b buf r m' → WriteAnswer (joined agreed m n) d b buf r (joined agreed m' n)
-  write_first b buf r =
+  pub write_first : (b : ℕ) (buf : List ℕ) (r : Result Unit Refusal) → b < (joined agreed m n).blocks → WriteAnswer m k b buf r m' → WriteAnswer (joined agreed m n) d b buf r (joined agreed m' n)
+  write_first b buf r hb =
       let h = first_side agreed m n d k s told is in
-      write_answer 0 m m' (joined agreed m n) (joined agreed m' n) (first_part agreed m m' n (both_depths agreed m n d found h.2).0) k d h.0 (omega (arith, h.1)) h.2 b buf r r
+      write_answer 0 m m' (joined agreed m n) (joined agreed m' n) (first_part agreed m m' n) k d h.0 (omega (arith, h.1)) h.2 b buf r r hb
       (same_number k d r h.1)
 
   pub fit_first : (r : Result Unit Refusal) → FitAnswer m k r m' → FitAnswer (joined agreed m n) d r (joined agreed m' n)
   fit_first r =
       let h = first_side agreed m n d k s told is in
-      fit_answer 0 m m' (joined agreed m n) (joined agreed m' n) (first_part agreed m m' n (both_depths agreed m n d found h.2).0) k d h.0 (omega (arith, h.1)) h.2 r r
+      fit_answer 0 m m' (joined agreed m n) (joined agreed m' n) (first_part agreed m m' n) k d h.0 (omega (arith, h.1)) h.2 r r
       (same_number k d r h.1)
 
   pub pull_first : (r : Result Unit Refusal) → PullAnswer m k r m' → PullAnswer (joined agreed m n) d r (joined agreed m' n)
   pull_first r =
       let h = first_side agreed m n d k s told is in
-      pull_answer 0 m m' (joined agreed m n) (joined agreed m' n) (first_part agreed m m' n (both_depths agreed m n d found h.2).0) k d h.0 (omega (arith, h.1)) h.2 r r
+      pull_answer 0 m m' (joined agreed m n) (joined agreed m' n) (first_part agreed m m' n) k d h.0 (omega (arith, h.1)) h.2 r r
       (same_number k d r h.1)
 
-module _ (agreed : Bool) (m n n' : Meaning) (d k : ℕ) (s : Side) (found : agreed ≡ agree m n) (told : SideAnswer agreed m n d (Ok s)) (is : s ≡ Second k) where
-  pub read_second : (b : ℕ) (buf buf' : List ℕ) (r t : Result Unit Refusal) → ReadAnswer n k b buf r n' buf' → Renumbers k d r t → ReadAnswer (joined agreed m n) d b buf t (joined agreed m n') buf'
-  read_second b buf buf' r t a same =
+module _ (agreed : Bool) (m n n' : Meaning) (d k : ℕ) (s : Side) (told : SideAnswer agreed m n d (Ok s)) (is : s ≡ Second k) where
+  pub read_second : (b : ℕ) (buf buf' : List ℕ) (r t : Result Unit Refusal) → b < (joined agreed m n).blocks → ReadAnswer n k b buf r n' buf' → Renumbers k d r t → ReadAnswer (joined agreed m n) d b buf t (joined agreed m n') buf'
+  read_second b buf buf' r t hb a same =
       let h = second_side agreed m n d k s told is in
-      read_answer m.drives n n' (joined agreed m n) (joined agreed m n') (second_part agreed m n n' (both_depths agreed m n d found h.2).1) k d h.0 h.1 h.2 b buf buf' r t same a
+      read_answer m.drives n n' (joined agreed m n) (joined agreed m n') (second_part agreed m n n') k d h.0 h.1 h.2 b buf buf' r t hb same a
 
-  pub write_second : (b : ℕ) (buf : List ℕ) (r t : Result Unit Refusal) → WriteAnswer n k b buf r n' → Renumbers k d r t → WriteAnswer (joined agreed m n) d b buf t (joined agreed m n')
-  write_second b buf r t a same =
+  pub write_second : (b : ℕ) (buf : List ℕ) (r t : Result Unit Refusal) → b < (joined agreed m n).blocks → WriteAnswer n k b buf r n' → Renumbers k d r t → WriteAnswer (joined agreed m n) d b buf t (joined agreed m n')
+  write_second b buf r t hb a same =
       let h = second_side agreed m n d k s told is in
-      write_answer m.drives n n' (joined agreed m n) (joined agreed m n') (second_part agreed m n n' (both_depths agreed m n d found h.2).1) k d h.0 h.1 h.2 b buf r t same a
+      write_answer m.drives n n' (joined agreed m n) (joined agreed m n') (second_part agreed m n n') k d h.0 h.1 h.2 b buf r t hb same a
 
   pub fit_second : (r t : Result Unit Refusal) → FitAnswer n k r n' → Renumbers k d r t → FitAnswer (joined agreed m n) d t (joined agreed m n')
   fit_second r t a same =
       let h = second_side agreed m n d k s told is in
-      fit_answer m.drives n n' (joined agreed m n) (joined agreed m n') (second_part agreed m n n' (both_depths agreed m n d found h.2).1) k d h.0 h.1 h.2 r t same a
+      fit_answer m.drives n n' (joined agreed m n) (joined agreed m n') (second_part agreed m n n') k d h.0 h.1 h.2 r t same a
 
   pub pull_second : (r t : Result Unit Refusal) → PullAnswer n k r n' → Renumbers k d r t → PullAnswer (joined agreed m n) d t (joined agreed m n')
   pull_second r t a same =
       let h = second_side agreed m n d k s told is in
-      pull_answer m.drives n n' (joined agreed m n) (joined agreed m n') (second_part agreed m n n' (both_depths agreed m n d found h.2).1) k d h.0 h.1 h.2 r t same a
+      pull_answer m.drives n n' (joined agreed m n) (joined agreed m n') (second_part agreed m n n') k d h.0 h.1 h.2 r t same a

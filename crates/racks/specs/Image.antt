@@ -11,4 +11,4 @@ abbrev pub marked : (pulled d : ℕ) → DriveState
 marked pulled d = cond (pulled / 2 ^ d % 2 == 1) Pulled Live
 
 abbrev pub image_meaning : ImageRack → Meaning
-image_meaning i = flat i.layout.drives i.layout.blocks i.bytes.now (marked i.pulled)
+image_meaning i = flat i.drives i.blocks i.bytes.now (marked i.pulled)

@@ -1,24 +1,27 @@
 // The image rack: the flat layout over bytes that can only be read.
 ghost use Rattle.std.specs.Prelude.{◌≡◌, length};
-ghost use Rattle.racks.specs.Layout.{IsLaidOut, drives_of, blocks_of};
+ghost use Rattle.racks.specs.Calls.{ReadAnswer};
+ghost use Rattle.racks.specs.Layout.{drives_of, blocks_of};
+ghost use Rattle.racks.specs.LayoutSizes.{flat_sized};
+ghost use Rattle.racks.specs.Image.{marked, image_meaning};
 
 use crate::DriveState;
 use crate::layout::Layout;
 use crate::rack::ReadingRack;
 use refusals::Refusal;
 
-// Bit d of `pulled` says that drive d is pulled; every other drive is live. No call changes anything.
+// Bit d of `pulled` says that drive d is pulled; every other drive is live. No call changes anything. The layout is made anew for each
+// call: with a ghost field that says that it fits, this rack, joined to a flat one, could not be joined to a third, since the borrow
+// checker does not cover that.
 #[derive(Drop)]
 pub struct ImageRack<'a> {
     bytes: &'a [u8],
-    layout: Layout,
+    drives: u8,
+    blocks: u32,
     pulled: u32,
-    ghost laid_out: { IsLaidOut layout.drives layout.blocks (length bytes.now) },
 }
 
 impl<'a> ImageRack<'a> {
-    ghost use Rattle.racks.specs.Image.{image_meaning};
-
     // A rack that reads `bytes`, if these are just so many drives of so many blocks; else a rack of no drives.
     pub fn new(bytes: &'a [u8], drives: u8, blocks: u32, pulled: u32) -> ImageRack<'a>
         ensures drives { (image_meaning result).drives ≡ drives_of drives blocks (length bytes.now) }
@@ -28,7 +31,8 @@ impl<'a> ImageRack<'a> {
     {
         ImageRack {
             bytes,
-            layout: Layout::of(drives, blocks, bytes.len()),
+            drives,
+            blocks,
             pulled,
         }
     }
@@ -39,23 +43,26 @@ impl<'a> ImageRack<'a> {
     {
         self.bytes
     }
+
+    fn layout(&self) -> Layout
+        ensures drives { result.drives ≡ (image_meaning self.now).drives }
+        ensures blocks { result.blocks ≡ (image_meaning self.now).blocks }
+    {
+        Layout::of(self.drives, self.blocks, self.bytes.len())
+    }
 }
 
 impl ReadingRack for ImageRack<'_> {
-    ghost use Rattle.racks.specs.Calls.{ReadAnswer};
-    ghost use Rattle.racks.specs.LayoutSizes.{flat_sized};
-    ghost use Rattle.racks.specs.Image.{marked, image_meaning};
-
     ghost meaning = { image_meaning };
 
-    ghost sized = { λ r. flat_sized r.layout.drives r.layout.blocks r.bytes.now (marked r.pulled) };
+    ghost sized = { λ r. flat_sized r.drives r.blocks r.bytes.now (marked r.pulled) };
 
     fn drives(&self) -> u8 {
-        self.layout.drives
+        self.layout().drives
     }
 
     fn blocks(&self) -> u32 {
-        self.layout.blocks
+        self.layout().blocks
     }
 
     fn state(&self, drive: u8) -> Result<DriveState, Refusal> {
@@ -74,7 +81,7 @@ impl ReadingRack for ImageRack<'_> {
         ensures unchanged { self.new ≡ self.old }
     {
         self.admit(drive, block, buf.len())?;
-        self.layout.load(self.bytes, drive, block, buf);
+        self.layout().load(self.bytes, drive, block, buf);
         Ok(())
     }
 }

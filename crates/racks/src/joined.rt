@@ -9,14 +9,15 @@ use crate::rack::{Rack, ReadingRack};
 use blocks::MAX_DRIVES;
 use refusals::Refusal;
 
-// The drives of `first` come first, and those of `second` behind them; there are none where the two do not agree in size.
+// The drives of `first` come first, and those of `second` behind them; there are none where the two do not agree in size. A ghost field
+// would say what `agreed` stands for, but then a joined rack that holds no `&mut` could not be joined with one that does, and the two
+// with a third: the borrow checker does not cover it.
 #[derive(Drop)]
 pub struct JoinedRack<A: ReadingRack, B: ReadingRack> {
     first: A,
     second: B,
     // Found once: in a nest of racks each call would ask all of them again and again.
     agreed: bool,
-    ghost found: { agreed ≡ agree (A.meaning first) (B.meaning second) },
 }
 
 // Whose drive it is, and its number there.
@@ -85,14 +86,20 @@ impl<A: ReadingRack, B: ReadingRack> ReadingRack for JoinedRack<A, B> {
 
     fn drives(&self) -> u8 {
         if self.agreed {
-            self.first.drives() + self.second.drives()
+            // `new` has seen that there are no more than that.
+            (self.first.drives() + self.second.drives()).min(MAX_DRIVES)
         } else {
             0
         }
     }
 
     fn blocks(&self) -> u32 {
-        if self.agreed { self.first.blocks() } else { 0 }
+        if self.agreed {
+            // `new` has seen that both are equal.
+            self.first.blocks().min(self.second.blocks())
+        } else {
+            0
+        }
     }
 
     #[tactic(auto, using(crate::proofs::Sides::state_second))]
@@ -109,7 +116,11 @@ impl<A: ReadingRack, B: ReadingRack> ReadingRack for JoinedRack<A, B> {
         ensures agreed { self.new.agreed ≡ self.old.agreed }
         ensures own { OneSide A.meaning B.meaning drive self.old.first self.old.second self.new.first self.new.second }
     {
-        match self.side(drive)? {
+        let side = self.side(drive)?;
+        if block >= self.blocks() {
+            return Err(Refusal::NoBlock { block });
+        }
+        match side {
             Side::First(own) => self.first.read(own, block, buf),
             Side::Second(own) => renumbered(self.second.read(own, block, buf), drive),
         }
@@ -123,7 +134,11 @@ impl<A: Rack, B: Rack> Rack for JoinedRack<A, B> {
         ensures agreed { self.new.agreed ≡ self.old.agreed }
         ensures own { OneSide A.meaning B.meaning drive self.old.first self.old.second self.new.first self.new.second }
     {
-        match self.side(drive)? {
+        let side = self.side(drive)?;
+        if block >= self.blocks() {
+            return Err(Refusal::NoBlock { block });
+        }
+        match side {
             Side::First(own) => self.first.write(own, block, buf),
             Side::Second(own) => renumbered(self.second.write(own, block, buf), drive),
         }
