@@ -4,8 +4,8 @@ ghost use Rattle.racks.specs.Layout.{start, block_at, stored_at, drives_of, bloc
 
 use blocks::{BLOCK_SIZE, MAX_BLOCKS, MAX_DRIVES};
 
-// How many drives of how many blocks lie in a row of bytes. Each rack says for itself that these fit its bytes, since a ghost field
-// here, in a struct beside a `&mut`, would keep the flat rack from standing for a type parameter of a struct.
+// How many drives of how many blocks lie in a row of bytes. That they fit the bytes is a ghost field of the flat rack and not of the
+// layout: a `&mut` beside a struct with a ghost field cannot stand for a type parameter of a struct (the borrow checker does not cover it).
 #[derive(Clone, Copy)]
 pub struct Layout {
     pub drives: u8,
