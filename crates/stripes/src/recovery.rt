@@ -3,8 +3,8 @@ ghost use Rattle.std.specs.Prelude.{◌≡◌, ℕ, ◌-◌, length, MatchResult
 ghost use Rattle.stripes.specs.Filling.{Fillings};
 ghost use Rattle.stripes.specs.Recovery.{Lawful, Unlawful, RecoverAnswer, RecoversCodeword, RecoversEncoded};
 
-use crate::marks::stray_mark;
-use crate::rebuild::rebuild;
+use crate::columns::Recovery;
+use crate::missing::Missing;
 use codes::Code;
 use parity::fits;
 use racks::ReadingRack;
@@ -16,7 +16,7 @@ fn permit<R: ReadingRack, C: Code>(
     code: &C,
     stripe: u32,
     column: u8,
-    missing: u32,
+    missing: Missing,
     size: usize,
 ) -> Result<(), Refusal>
     ensures { MatchResult result (λ _. Lawful (R.ReadingRack.meaning rack.now) (C.Code.bits code.now) (C.Code.period code.now) stripe column missing size) (λ e. Unlawful (R.ReadingRack.meaning rack.now) (C.Code.bits code.now) (C.Code.period code.now) stripe column missing size e) }
@@ -32,7 +32,7 @@ fn permit<R: ReadingRack, C: Code>(
     if column >= drives {
         return Err(Refusal::NoDrive { drive: column });
     }
-    if let Some(drive) = stray_mark(missing, drives) {
+    if let Some(drive) = missing.stray(drives) {
         return Err(Refusal::NoDrive { drive });
     }
     if size != 512 {
@@ -57,15 +57,18 @@ pub fn recover<R: ReadingRack, C: Code>(
     ensures encoded { RecoversEncoded (C.Code.bits code.now) (C.Code.period code.now) (C.Code.map code.now) (R.ReadingRack.meaning rack.old) stripe column result.0 result.1 buf.new }
     ensures fillings { Fillings (C.Code.bits code.now) (C.Code.period code.now) (C.Code.map code.now) }
 {
-    if let Err(refusal) = permit(rack, code, stripe, column, missing, buf.len()) {
+    let marked = Missing::new(missing);
+    if let Err(refusal) = permit(rack, code, stripe, column, marked, buf.len()) {
         return (Err(refusal), missing);
     }
-    if missing.count_ones() > 2 {
+    if marked.too_many() {
         return (Err(Refusal::TooManyMissing), missing);
     }
     let columns = rack.drives() - 2;
-    let mut known = missing;
-    match rebuild(rack, code, stripe, columns, column, &mut known) {
+    let mut recovery = Recovery::new(rack, code, stripe, columns, marked);
+    let rebuilt = recovery.rebuild(column);
+    let known = recovery.end().marks();
+    match rebuilt {
         Some(block) => {
             buf.copy_from_slice(&block);
             (Ok(()), known)
