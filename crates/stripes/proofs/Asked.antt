@@ -57,11 +57,11 @@ module _ {R C : Type 0} {r : _} {c : _} (a b d : Recovery R C r c) (column : ℕ
   module _ (e : Recovery R C r c) (solved : Continues d e) where
     pub one_none : (j : ℕ) → found.lost ≡ One j → SolvesOne d e.missing found.sums j None → Rebuilds a e.missing column None
     one_none j is told =
-        let at_a = rw (so_far.code, so_far.stripe, so_far.columns) at told in at_a held held_still sums (lost_is (One j) is)
+        let at_a = rw (so_far.code, so_far.stripe, so_far.columns) at told in at_a held held_still sums (lost_is (One j) is) (got.0)
 
     pub two_none : (i j : ℕ) → found.lost ≡ Two i j → SolvesTwo d e.missing found.sums i j None → Rebuilds a e.missing column None
     two_none i j is told =
-        let at_a = rw (so_far.code, so_far.stripe, so_far.columns) at told in at_a held held_still sums (lost_is (Two i j) is)
+        let at_a = rw (so_far.code, so_far.stripe, so_far.columns) at told in at_a held held_still sums (lost_is (Two i j) is) (got.0)
 
     pub one : Lawful n N g → (j : ℕ) → found.lost ≡ One j → (column_j block : List ℕ) → SolvesOne d e.missing found.sums j (Some column_j) → SameData d.columns d.missing e.missing
         → Completed (c.bits e.code.now) (c.period e.code.now) (c.map e.code.now) e.columns column j found.sums.p found.sums.q column_j block
@@ -72,7 +72,7 @@ module _ {R C : Type 0} {r : _} {c : _} (a b d : Recovery R C r c) (column : ℕ
         let all_along = continues_trans a d e so_far solved in
         let by = rw (all_along.code, all_along.columns) at completes in
         let lost = lost_is (One j) is in
-        let solution = at_a held held_still sums lost in (
+        let solution = at_a held held_still sums lost (got.0) in (
           solution.0,
           completed n N a.columns g held d.missing found.sums.p found.sums.q sums law e.missing same_a j lost column_j solution.1 a.fits.width column block lt (solved.known.grows column gone) by,
         )
@@ -82,13 +82,13 @@ module _ {R C : Type 0} {r : _} {c : _} (a b d : Recovery R C r c) (column : ℕ
       two_low at =
           let at_a = rw (so_far.code, so_far.stripe, so_far.columns) at told in
           let lost = lost_is (Two i j) is in
-          let pair_is = at_a held held_still sums lost in
+          let pair_is = at_a held held_still sums lost (got.0) in
           (pair_is.0, is_data n N a.columns g held e.missing i column pair.low (asked_data n N a.columns g held d.missing found.sums.p found.sums.q sums i j lost got.0 column gone) at pair_is.1.1)
 
       pub two_high : (column ≡ i → ⊥) → Rebuilds a e.missing column (Some pair.high)
       two_high not_low =
           let at_a = rw (so_far.code, so_far.stripe, so_far.columns) at told in
           let lost = lost_is (Two i j) is in
-          let pair_is = at_a held held_still sums lost in
+          let pair_is = at_a held held_still sums lost (got.0) in
           let at : column ≡ j = ⊎_elim (λ e. absurd (not_low e)) (λ e. e) (asked_one n N a.columns g held d.missing found.sums.p found.sums.q sums i j lost got.0 column gone) in
           (pair_is.0, is_data n N a.columns g held e.missing j column pair.high (asked_data n N a.columns g held d.missing found.sums.p found.sums.q sums i j lost got.0 column gone) at pair_is.1.2)

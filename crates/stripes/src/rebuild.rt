@@ -1,7 +1,6 @@
 // Rebuilding one column of a stripe from the others.
 ghost use Rattle.std.specs.Prelude.{◌≡◌, ◌+◌, ◌<◌, ◌≤◌, count_ones};
-ghost use Rattle.stripes.specs.Recovering.{Continues, Rebuilds};
-ghost use Rattle.stripes.specs.Recovery.{Completed};
+ghost use Rattle.stripes.specs.Recovering.{Continues, Completes, Rebuilds};
 
 use crate::columns::Recovery;
 use crate::gather::Lost;
@@ -12,7 +11,7 @@ use racks::ReadingRack;
 impl<R: ReadingRack, C: Code> Recovery<'_, '_, R, C> {
     // The asked column, from the one data column that was solved for: that column itself, or the parity that it completes.
     fn complete(&self, column: u8, sums: &Sums, lost: u8, mut block: Block) -> Block
-        ensures { Completed (C.Code.bits self.now.code.now) (C.Code.period self.now.code.now) (C.Code.map self.now.code.now) self.now.columns column lost sums.now.p sums.now.q block result }
+        ensures { Completes self.now column sums.now lost block result }
     {
         if column == self.columns {
             add(&mut block, &sums.p);

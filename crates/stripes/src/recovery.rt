@@ -1,7 +1,7 @@
 // Recovery: the public call.
-ghost use Rattle.std.specs.Prelude.{◌≡◌, ℕ, ◌-◌, length, MatchResult};
+ghost use Rattle.std.specs.Prelude.{◌≡◌, ℕ, ◌-◌, length};
 ghost use Rattle.stripes.specs.Filling.{Fillings};
-ghost use Rattle.stripes.specs.Recovery.{Lawful, Unlawful, RecoverAnswer, RecoversCodeword, RecoversEncoded};
+ghost use Rattle.stripes.specs.Recovery.{PermitAnswer, RecoverAnswer, RecoversCodeword, RecoversEncoded};
 
 use crate::columns::Recovery;
 use crate::missing::Missing;
@@ -19,7 +19,7 @@ fn permit<R: ReadingRack, C: Code>(
     missing: Missing,
     size: usize,
 ) -> Result<(), Refusal>
-    ensures { MatchResult result (λ _. Lawful (R.ReadingRack.meaning rack.now) (C.Code.bits code.now) (C.Code.period code.now) stripe column missing size) (λ e. Unlawful (R.ReadingRack.meaning rack.now) (C.Code.bits code.now) (C.Code.period code.now) stripe column missing size e) }
+    ensures { PermitAnswer (R.ReadingRack.meaning rack.now) (C.Code.bits code.now) (C.Code.period code.now) stripe column missing size result }
 {
     let drives = rack.drives();
     let blocks = rack.blocks();

@@ -18,8 +18,7 @@ pub struct Pair {
 impl<R: ReadingRack, C: Code> Recovery<'_, '_, R, C> {
     // The one data column that is missing: from P, or where P is missing too, from Q.
     pub fn solve_one(&mut self, sums: &Sums, lost: u8) -> Option<Block>
-        requires data { lost < self.old.columns }
-        requires few { count_ones self.old.missing ≤ 2 }
+        requires { lost < self.old.columns }
         ensures continues { Continues self.old self.new }
         ensures data_marks { SameData self.old.columns self.old.missing self.new.missing }
         ensures solves { SolvesOne self.old self.new.missing sums.now lost result }
@@ -44,7 +43,6 @@ impl<R: ReadingRack, C: Code> Recovery<'_, '_, R, C> {
     pub fn solve_two(&mut self, sums: &Sums, low: u8, high: u8) -> Option<Pair>
         requires apart { low < high }
         requires data { high < self.old.columns }
-        requires few { count_ones self.old.missing ≤ 2 }
         ensures continues { Continues self.old self.new }
         ensures solves { SolvesTwo self.old self.new.missing sums.now low high result }
     {

@@ -15,8 +15,8 @@ returns-in-Some-clause-solves g c =
     let K = a.columns in
     let s' = c.fetch.new.self.missing in
     let same : SameData K a.missing s' = λ k lt. ap (λ v. marked v k) told.fetched.1 in
-    λ held holds sums lost. (
-      subst (λ v. ones v ≤ 2) (sym told.fetched.1) c.requires.few,
+    λ held holds sums lost few. (
+      subst (λ v. ones v ≤ 2) (sym told.fetched.1) few,
       one_by_p (g.C.Code.bits a.code.now) (g.C.Code.period a.code.now) K (g.C.Code.map a.code.now) held a.missing s' c.args.sums.now.p c.args.sums.now.q sums same
           (g.met.C.Code.lawful a.code.now) a.fits.width c.args.lost lost c.in-Some.block c.add.new.sum
           (ap (λ v. marked v K) told.fetched.1 ∙ told.fetched.0)
@@ -34,7 +34,7 @@ returns-in_err-block-clause-solves g c =
     let K = a.columns in
     let s'' = c.fetch-2.new.self.missing in
     let same : SameData K a.missing s'' = λ k lt. second.fetched.others k (λ e. omega arith) ∙ first.fetched.others k (λ e. omega arith) in
-    rw c.from_residual.ensures (λ held holds sums lost.
+    rw c.from_residual.ensures (λ held holds sums lost few.
     one_and_both (g.C.Code.bits a.code.now) (g.C.Code.period a.code.now) K (g.C.Code.map a.code.now) held a.missing s'' c.args.sums.now.p c.args.sums.now.q sums same
     (g.met.C.Code.lawful a.code.now) a.fits.width c.args.lost lost (second.continues.known.grows K first.fetched.joins) second.fetched.joins)
 
@@ -55,7 +55,7 @@ returns-clause-solves g c =
     let s' = c.fetch.new.self.missing in
     let s'' = c.fetch-2.new.self.missing in
     let same : SameData K a.missing s'' = λ k lt. ap (λ v. marked v k) second.fetched.1 ∙ first.fetched.others k (λ e. omega arith) in
-    λ held holds sums lost.
+    λ held holds sums lost few.
     let top : K + 1 < m'.drives = omega (arith, a.spans.drives, first.continues.known.drives) in
     let now_held = holding_next m a.missing m' s' a.stripe held first.continues.known a.spans.stripe_there holds in (
       subst (λ v. ones v ≤ 2) (sym second.fetched.1) c.if-too_many.ensures,

@@ -16,7 +16,7 @@ returns-in_err-p-clause-solves g c =
     let K = a.columns in
     let s' = c.fetch.new.self.missing in
     let same : SameData K a.missing s' = λ k lt. first.fetched.others k (λ e. omega arith) in
-    rw c.from_residual.ensures (λ held holds sums lost.
+    rw c.from_residual.ensures (λ held holds sums lost few.
     two_and_one (g.C.Code.bits a.code.now) (g.C.Code.period a.code.now) K (g.C.Code.map a.code.now) held a.missing s' c.args.sums.now.p c.args.sums.now.q sums same
     (g.met.C.Code.lawful a.code.now) a.fits.width c.args.low c.args.high lost K (omega arith) first.fetched.joins)
 
@@ -28,7 +28,7 @@ returns-in_err-q-clause-solves g c =
     let K = a.columns in
     let s'' = c.fetch-2.new.self.missing in
     let same : SameData K a.missing s'' = λ k lt. second.fetched.others k (λ e. omega arith) ∙ ap (λ v. marked v k) first.fetched.1 in
-    rw c.from_residual-in_err-q.ensures (λ held holds sums lost.
+    rw c.from_residual-in_err-q.ensures (λ held holds sums lost few.
     two_and_one (g.C.Code.bits a.code.now) (g.C.Code.period a.code.now) K (g.C.Code.map a.code.now) held a.missing s'' c.args.sums.now.p c.args.sums.now.q sums same
     (g.met.C.Code.lawful a.code.now) a.fits.width c.args.low c.args.high lost (K + 1) (omega arith) second.fetched.joins)
 
@@ -50,7 +50,7 @@ returns-clause-solves g c =
     let s'' = c.fetch-2.new.self.missing in
     let still : s'' ≡ a.missing = second.fetched.1 ∙ first.fetched.1 in
     let same : SameData K a.missing s'' = λ k lt. ap (λ v. marked v k) still in
-    λ held holds sums lost.
+    λ held holds sums lost few.
     let top : K + 1 < m'.drives = omega (arith, a.spans.drives, first.continues.known.drives) in
     let now_held = holding_next m a.missing m' s' a.stripe held first.continues.known a.spans.stripe_there holds in
     let both = two_by_both n N K h held a.missing s'' c.args.sums.now.p c.args.sums.now.q sums same
@@ -67,4 +67,4 @@ returns-clause-solves g c =
     c.add-3.ensures refl
     (c.apply-2.ensures n (undo N h (c.args.high - c.args.low)) c.undo-undo.ensures)
     c.add-4.ensures in
-    (subst (λ v. ones v ≤ 2) (sym still) c.requires.few, (still, both.0, both.1))
+    (subst (λ v. ones v ≤ 2) (sym still) few, (still, both.0, both.1))
