@@ -12,17 +12,9 @@ mod tests {
     use parity::{Block, WordMap, add, encode};
     use std::process::Abort;
     use std::test::Fail;
+    use test_bytes::fill;
 
-    // The data that vectors/README.md describes.
-    fn fill(seed: u32, data: &mut [u8]) {
-        let mut state = seed;
-        for byte in data.iter_mut() {
-            state = state.wrapping_mul(1103515245).wrapping_add(12345);
-            *byte = (state >> 16 & 0xff) as u8;
-        }
-    }
-
-    // P and Q of k columns of such data are those of the other program.
+    // P and Q of k columns of the data that vectors/README.md describes are those of the other program.
     fn agrees(rt: &impl Abort, k: u8, p_there: &Block, q_there: &Block) -> Result<(), Fail> {
         if k > 10 {
             return Err(Fail::new("no vector has so many columns"));
