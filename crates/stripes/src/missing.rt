@@ -20,19 +20,23 @@ impl Model for Missing {
     ghost inverse = { λ marks. record { marks = marks } };
 }
 
-impl Missing {
-    pub fn new(marks: u32) -> Missing
-        ensures { result ≡ marks }
-    {
+impl From<u32> for Missing {
+    ghost from_gives = { λ marks missing. missing ≡ marks };
+
+    fn from(marks: u32) -> Missing {
         Missing { marks }
     }
+}
 
-    pub fn marks(self) -> u32
-        ensures { result ≡ self }
-    {
-        self.marks
+impl From<Missing> for u32 {
+    ghost from_gives = { λ missing marks. marks ≡ missing };
+
+    fn from(missing: Missing) -> u32 {
+        missing.marks
     }
+}
 
+impl Missing {
     pub fn contains(self, column: u8) -> bool
         ensures { result ≡ marked self column }
     {

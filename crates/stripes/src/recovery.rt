@@ -43,7 +43,7 @@ fn permit<R: ReadingRack, C: Code>(
 
 // Recovers a column of a stripe into `buf`. `missing` marks the columns that are known to be missing; these are not read. The answer is the
 // result and the missing columns as known afterwards: a column joins them only because its drive did not answer. Each column is read at most
-// once, and none after more than two are missing.
+// once, and none after more than two are missing. By a rule of this repository callers keep the missing columns as a number of 32 bits.
 pub fn recover<R: ReadingRack, C: Code>(
     rack: &mut R,
     code: &C,
@@ -57,7 +57,7 @@ pub fn recover<R: ReadingRack, C: Code>(
     ensures encoded { RecoversEncoded (C.Code.bits code.now) (C.Code.period code.now) (C.Code.map code.now) (R.ReadingRack.meaning rack.old) stripe column result.0 result.1 buf.new }
     ensures fillings { Fillings (C.Code.bits code.now) (C.Code.period code.now) (C.Code.map code.now) }
 {
-    let marked = Missing::new(missing);
+    let marked = Missing::from(missing);
     if let Err(refusal) = permit(rack, code, stripe, column, marked, buf.len()) {
         return (Err(refusal), missing);
     }
@@ -67,7 +67,7 @@ pub fn recover<R: ReadingRack, C: Code>(
     let columns = rack.drives() - 2;
     let mut recovery = Recovery::new(rack, code, stripe, columns, marked);
     let rebuilt = recovery.rebuild(column);
-    let known = recovery.end().marks();
+    let known = u32::from(recovery.end());
     match rebuilt {
         Some(block) => {
             buf.copy_from_slice(&block);

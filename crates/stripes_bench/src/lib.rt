@@ -32,6 +32,7 @@ fn recover_of_twelve<C: Code>(
     answer.is_ok()
 }
 
+// C has neither generic functions nor a Result: so a name for each code, and whether it was done.
 #[unsafe(no_mangle)]
 pub extern "C" fn rotyague_encode_byte(
     data: &[u8; 5120],

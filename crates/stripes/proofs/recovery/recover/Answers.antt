@@ -9,7 +9,7 @@ use Rattle.stripes.proofs.recovery.recover.Goals as goal
 
 pub returns-in-Err-clause-answer : goal.returns-in-Err-clause-answer
 returns-in-Err-clause-answer g c =
-    let told = rw c.new-marked.ensures at c.in-Err.ensures in (unlawful told refl (same_refl (g.R.ReadingRack.meaning c.args.rack.now)), refl)
+    let told = rw c.from-marked.ensures at c.in-Err.ensures in (unlawful told refl (same_refl (g.R.ReadingRack.meaning c.args.rack.now)), refl)
 
 pub returns-in-Err-clause-fillings : goal.returns-in-Err-clause-fillings
 returns-in-Err-clause-fillings g c =
@@ -22,7 +22,7 @@ returns-then-too_many-clause-fillings g c =
 pub returns-in-None-clause-answer : goal.returns-in-None-clause-answer
 returns-in-None-clause-answer g c =
     let told = c.in-None.ensures in
-    let law = rw c.new-marked.ensures at c.in_default.ensures in (too_many refl law (search rules) (search rules), refl)
+    let law = rw c.from-marked.ensures at c.in_default.ensures in (too_many refl law (search rules) (search rules), refl)
 
 pub returns-in-None-clause-fillings : goal.returns-in-None-clause-fillings
 returns-in-None-clause-fillings g c =
@@ -37,11 +37,11 @@ returns-in-Some g c =
     let turns = (g.met.C.Code.turns c.args.code.now).0 in
     let lawful = g.met.C.Code.lawful c.args.code.now in
     let m = g.R.ReadingRack.meaning c.args.rack.now in
-    let law = rw c.new-marked.ensures at c.in_default.ensures in
+    let law = rw c.from-marked.ensures at c.in_default.ensures in
     let made = c.new-recovery.ensures in
     let told = rw (made.code, made.columns, made.stripe, made.rack, c.drives-columns.ensures) at c.in-Some.ensures.rebuilds in
-    let missing' = c.marks-known.result in
-    let after : missing' ≡ c.rebuild-rebuilt.new.self.missing = c.marks-known.ensures ∙ c.end.ensures.missing in
+    let missing' = c.from-known.result in
+    let after : missing' ≡ c.rebuild-rebuilt.new.self.missing = c.from-known.ensures ∙ c.end.ensures.missing in
     let buf = c.copy_from_slice.new.self in
     let is : IsBlock buf = record { long = c.copy_from_slice.ensures.len ∙ law.block_size; bytes = λ k. (c.type_inv.buf k).fits } in
     let words : RecoveredBlock n N h (m.drives - 2) (columns_of m c.args.stripe) missing' c.args.column buf = rw (after, c.copy_from_slice.ensures.after) (told.1) in
