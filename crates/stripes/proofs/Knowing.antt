@@ -25,17 +25,6 @@ known_none m missing =
       joined = λ k f t. absurd (false≢true (sym f ∙ t));
     }
 
--- an answered read changes nothing
-pub known_same : (m : Meaning) (missing : ℕ) (m' : Meaning) → Same m m' → Known m missing m' missing
-known_same m missing m' s =
-    record {
-      drives = s.drives;
-      blocks = s.blocks;
-      each = λ k lt. inl (s.each k lt);
-      grows = λ k e. e;
-      joined = λ k f t. absurd (false≢true (sym f ∙ t));
-    }
-
 same_drive_trans : (m n o : Meaning) (k : ℕ) → n.blocks ≡ m.blocks → SameDrive m n k → SameDrive n o k → SameDrive m o k
 same_drive_trans m n o k e p q =
     record {

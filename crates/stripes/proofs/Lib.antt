@@ -6,3 +6,5 @@ pub mod Rebuilding
 pub mod Answering
 pub mod Packing
 pub mod Covers
+pub mod Continuing
+pub mod Asked

@@ -1,12 +1,12 @@
 -- Marks as bits: a mark that is set, and how many there are.
-use Rattle.std.proofs.Common.{◌≡◌, ℕ, zero, suc, ◌+◌, ◌-◌, ◌*◌, ◌/◌, ◌%◌, ◌^◌, ◌<◌, ◌≤◌, true, false, eqb, sym, refl, ap, ◌∙◌, ⊎_elim, pow-suc, div-one, one-add, arith, pow_mono, pow-add}
+use Rattle.std.proofs.Common.{◌≡◌, ℕ, zero, suc, ◌+◌, ◌-◌, ◌*◌, ◌/◌, ◌%◌, ◌^◌, ◌<◌, ◌≤◌, true, false, Option, Some, None, MatchOption, eqb, sym, refl, ap, ◌∙◌, ⊎_elim, pow-suc, div-one, one-add, arith, pow_mono, pow-add}
 use native.Mathlib.Nat.{mul-mod_left, div-eq_of_lt}
 use lib.Bits.{bit_or, or_shr, or_mod, or_zero_r}
 use lib.Count.{ones, ones_step}
 use lib.Pow.{pow-lt}
 use Rattle.std.proofs.lemmas.Nat.{shl-shr, shr-shr}
-use Rattle.std.proofs.lemmas.Bool.{cases_order, eqb-true, eq-eqb, ne_eqb}
-use Rattle.stripes.specs.Marks.{marked}
+use Rattle.std.proofs.lemmas.Bool.{cases_order, cases_lt, eqb-true, eq-eqb, ne_eqb}
+use Rattle.stripes.specs.Marks.{marked, Joined, StrayMark}
 
 pub bit_is : (s k : ℕ) → marked s k ≡ true → s / 2 ^ k % 2 ≡ 1
 bit_is s k m = eqb-true (s / 2 ^ k % 2) 1 m
@@ -22,6 +22,14 @@ marked_high w s k lt le = ne_eqb (s / 2 ^ k % 2) 1 (λ e. absurd (none e))
     none e =
         let small : s < 2 ^ k = omega (arith, pow_mono le) in
         omega (arith, ap (λ q. q % 2) (div-eq_of_lt small))
+
+-- a search below 32 finds each mark of 32 bits
+pub stray_mark : (D s : ℕ) (found : Option ℕ) → s < 2 ^ 32
+    → MatchOption found ((k : ℕ) → D ≤ k → k < 32 → marked s k ≡ false)
+    (λ i. (D ≤ i) × (i < 32) × (marked s i ≡ true) × ((k : ℕ) → D ≤ k → k < i → marked s k ≡ false))
+    → StrayMark D s found
+stray_mark D s None fits none = λ k le. ⊎_elim (λ lt. none k le lt) (λ ge. marked_high 32 s k fits ge) (cases_lt k 32)
+stray_mark D s (Some i) fits found = (found.0, found.2, found.3)
 
 -- the power 2 ^ c has bit c, and no other
 pow_bit : (c k : ℕ) → (k ≡ c → ⊥) → 2 ^ c / 2 ^ k % 2 ≡ 0
@@ -42,7 +50,7 @@ or_bit (suc zero) h = refl
 or_bit (suc (suc u)) h = absurd (omega arith)
 
 -- one mark more
-pub joined_mark : (s c : ℕ) → marked (bit_or s (2 ^ c)) c ≡ true
+joined_mark : (s c : ℕ) → marked (bit_or s (2 ^ c)) c ≡ true
 joined_mark s c =
     marked_is (bit_or s (2 ^ c)) c
     (ap (λ v. v % 2) (or_shr s (2 ^ c) c) ∙ or_mod (s / 2 ^ c) (2 ^ c / 2 ^ c) 1
@@ -52,11 +60,14 @@ joined_mark s c =
     one_mul' : (p : ℕ) → 1 * p ≡ p
     one_mul' p = omega arith
 
-pub other_mark : (s c k : ℕ) → (k ≡ c → ⊥) → marked (bit_or s (2 ^ c)) k ≡ marked s k
+other_mark : (s c k : ℕ) → (k ≡ c → ⊥) → marked (bit_or s (2 ^ c)) k ≡ marked s k
 other_mark s c k ne =
     ap (λ v. eqb v 1)
     (ap (λ v. v % 2) (or_shr s (2 ^ c) k) ∙ or_mod (s / 2 ^ k) (2 ^ c / 2 ^ k) 1
     ∙ ap (λ v. bit_or (s / 2 ^ k % 2) v) (pow_bit c k ne) ∙ or_zero_r (s / 2 ^ k % 2))
+
+pub joined : (s c : ℕ) → Joined s c (bit_or s (2 ^ c))
+joined s c = record { joins = joined_mark s c; others = other_mark s c }
 
 half_mark : (s k : ℕ) → s / 2 ^ suc k ≡ s / 2 / 2 ^ k
 half_mark s k = ap (λ v. s / 2 ^ v) (sym (one-add k)) ∙ sym (shr-shr s 1 k)

@@ -4,7 +4,7 @@ use lib.Bits.{xor_comm}
 use lib.Count.{ones}
 use Rattle.std.proofs.lemmas.Bool.{cases_eq, cases_lt, cases_Bool, cond-true, cond-false, eq-eqb, ne_eqb, false≢true}
 use Rattle.cyclic.specs.Maps.{◌⊕◌, sum, power, Lawful}
-use Rattle.cyclic.specs.Columns.{share, RecoveredData, own, data_column, parity_left, encoded_p, encoded_q}
+use Rattle.cyclic.specs.Columns.{share, RecoveredData, own, data_column, encoded_p, encoded_q}
 use Rattle.cyclic.proofs.Horner.{power_mod}
 use Rattle.cyclic.proofs.Powers.{power_zero}
 use Rattle.cyclic.proofs.Shares.{sum_below, sum_but_one}
@@ -17,11 +17,6 @@ use Rattle.stripes.specs.Solved.{SolvedData, SameData}
 use Rattle.stripes.specs.Recovery.{RecoveredBlock, Completed}
 use Rattle.stripes.proofs.MarkBits.{three_marks}
 use Rattle.stripes.proofs.Solving.{p_all, q_all}
-
--- the asked column was read
-pub read_column : (n N K : ℕ) (g : ℕ → ℕ) (held : ℕ → List ℕ) (s column : ℕ) (block : List ℕ) → column < K + 2 → marked s column ≡ false → block ≡ held column → RecoveredBlock n N g K held s column block
-read_column n N K g held s column block lt there is i l =
-    ⊎_elim (λ below. data_column below (own there (ap (λ b. word n b i) is))) (λ above. parity_left above there (ap (λ b. word n b i) is)) (cases_lt column K)
 
 module _ (n N K : ℕ) (g : ℕ → ℕ) (held : ℕ → List ℕ) (s : ℕ) (p q : List ℕ) (sums : SumsFrom n g 0 K held s p q) where
   -- no data is missing: the sums are the parities

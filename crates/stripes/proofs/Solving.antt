@@ -22,9 +22,6 @@ share_marks : (b b' : Bool) (x : ℕ) → b ≡ b' → cond b 0 x ≡ cond b' 0 
 share_marks b b' x e = ap (λ t. cond t 0 x) e
 
 module _ (n N K : ℕ) (g : ℕ → ℕ) (held : ℕ → List ℕ) (s s' : ℕ) (p q : List ℕ) (sums : SumsFrom n g 0 K held s p q) (same : SameData K s s') where
-  col : ℕ → ℕ → ℕ
-  col i k = word n (held k) i
-
   pub p_all : (i : ℕ) → n * i < 4096 → word n p i ≡ sum K (share (marked s') (λ k. word n (held k) i))
   p_all i l =
       sums.p_words i l

@@ -48,6 +48,11 @@ pub data Unlawful (m : Meaning) (n N stripe column missing size : ℕ) (e : Refu
   buffer_size : e ≡ BufferSize → RackFits m n N → stripe < m.blocks → column < m.drives → ((k : ℕ) → m.drives ≤ k → marked missing k ≡ false)
       → (size ≢ 512) → Unlawful m n N stripe column missing size e
 
+-- Whether a call may touch the rack.
+abbrev pub PermitAnswer : Meaning → (n N stripe column missing size : ℕ) → Result (Unit {0}) Refusal → Type 0
+PermitAnswer m n N stripe column missing size (Ok done) = Lawful m n N stripe column missing size
+PermitAnswer m n N stripe column missing size (Err e) = Unlawful m n N stripe column missing size e
+
 -- An accepted call: the result follows from the columns that are missing afterwards, at most two, and from the blocks of the others.
 pub record Accepted (n N : ℕ) (g : ℕ → ℕ) (m : Meaning) (stripe column missing : ℕ) (buf : List ℕ) (missing' : ℕ) (m' : Meaning) (buf' : List ℕ) : Type 0 where
   pub lawful : Lawful m n N stripe column missing (length buf)

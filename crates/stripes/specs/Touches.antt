@@ -1,8 +1,8 @@
 -- What reading columns of a stripe can do to a rack, and to the columns that are known to be missing.
-use Rattle.std.specs.Prelude.{◌≡◌, ℕ, ◌<◌, Bool, true, false, ◌⊎◌, List, ◌≢◌}
+use Rattle.std.specs.Prelude.{◌≡◌, ℕ, ◌<◌, true, false, ◌⊎◌, List, Option, Some, None, ◌≢◌}
 use Rattle.racks.specs.declared.DriveState.TheVariants.{Live, Failed}
 use Rattle.racks.specs.Meaning.{Meaning, SameDrive}
-use Rattle.stripes.specs.Marks.{marked}
+use Rattle.stripes.specs.Marks.{marked, Joined}
 
 -- the columns of a stripe: column k is the stripe's block of drive k
 abbrev pub columns_of : Meaning → ℕ → ℕ → List ℕ
@@ -27,9 +27,8 @@ pub record Known (m : Meaning) (missing : ℕ) (m' : Meaning) (missing' : ℕ) :
   pub grows : (k : ℕ) → marked missing k ≡ true → marked missing' k ≡ true
   pub joined : (k : ℕ) → marked missing k ≡ false → marked missing' k ≡ true → (k < m.drives) × (m'.state k ≢ Live)
 
--- A column was read, unless it was missing: true, and its block is here, or false, and it is missing now.
-abbrev pub Fetched : Meaning → ℕ → ℕ → ℕ → Bool → Meaning → ℕ → List ℕ → Type 0
-Fetched m missing stripe column true m' missing' block' =
-    (marked missing column ≡ false) × (missing' ≡ missing) × (m.state column ≡ Live) × (block' ≡ m.block column stripe)
-Fetched m missing stripe column false m' missing' block' =
-    (marked missing' column ≡ true) × ((k : ℕ) → (k ≢ column) → marked missing' k ≡ marked missing k)
+-- A column was read, unless it was missing: its block, or none, and it is missing now.
+abbrev pub Fetched : Meaning → ℕ → ℕ → ℕ → Option (List ℕ) → ℕ → Type 0
+Fetched m missing stripe column (Some block) missing' =
+    (marked missing column ≡ false) × (missing' ≡ missing) × (m.state column ≡ Live) × (block ≡ m.block column stripe)
+Fetched m missing stripe column None missing' = Joined missing column missing'

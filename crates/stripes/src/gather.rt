@@ -1,10 +1,9 @@
 // One pass over the data columns of a stripe: the two sums of those that answer, and which are missing.
-ghost use Rattle.std.specs.Prelude.{◌≡◌, ℕ, ◌+◌, ◌<◌, ◌≤◌, MatchOption, count_ones};
-ghost use Rattle.codes.specs.Blocks.{FillsBlock};
-ghost use Rattle.stripes.specs.Gathered.{GathersAll, Joins};
-ghost use Rattle.stripes.specs.Touches.{Known};
+ghost use Rattle.std.specs.Prelude.{◌≡◌, ◌≤◌, count_ones};
+ghost use Rattle.stripes.specs.Recovering.{Continues, Gathers};
+ghost use Rattle.stripes.specs.Gathered.{Joins};
 
-use crate::columns::fetch;
+use crate::columns::Recovery;
 use codes::Code;
 use parity::Sums;
 use racks::ReadingRack;
@@ -37,35 +36,28 @@ pub struct Gathered {
     pub lost: Lost,
 }
 
-// Reads the data columns from the highest down, each once, but for the missing ones. A drive that does not answer adds to neither sum.
-// Stops as soon as more than two columns are missing.
-pub fn gather<R: ReadingRack, C: Code>(
-    rack: &mut R,
-    code: &C,
-    stripe: u32,
-    columns: u8,
-    missing: &mut u32,
-) -> Option<Gathered>
-    requires drives { (R.ReadingRack.meaning rack.old).drives ≡ columns + 2 }
-    requires stripe { stripe < (R.ReadingRack.meaning rack.old).blocks }
-    requires fills { FillsBlock (C.Code.bits code.now) }
-    requires few { count_ones missing.old ≤ 2 }
-    ensures known { Known (R.ReadingRack.meaning rack.old) missing.old (R.ReadingRack.meaning rack.new) missing.new }
-    ensures gathered { MatchOption result (2 < count_ones missing.new) (λ found. (count_ones missing.new ≤ 2) × GathersAll (C.Code.bits code.now) (C.Code.map code.now) columns (R.ReadingRack.meaning rack.old) stripe missing.new found) }
-{
-    let mut sums = Sums::zero();
-    let mut lost = Lost::None;
-    let mut block = [0; 512];
-    for column in (0..columns).rev() {
-        if fetch(rack, stripe, column, missing, &mut block) {
-            sums.absorb(code, &block);
-        } else {
-            sums.skip(code);
-            if missing.count_ones() > 2 {
-                return None;
+impl<R: ReadingRack, C: Code> Recovery<'_, '_, R, C> {
+    // Reads the data columns from the highest down, each once, but for the missing ones. A drive that does not answer adds to neither sum.
+    // Stops as soon as more than two columns are missing.
+    pub fn gather(&mut self) -> Option<Gathered>
+        requires { count_ones self.old.missing ≤ 2 }
+        ensures continues { Continues self.old self.new }
+        ensures gathers { Gathers self.old self.new.missing result }
+    {
+        let code = self.code;
+        let mut sums = Sums::zero();
+        let mut lost = Lost::None;
+        for column in (0..self.columns).rev() {
+            if let Some(block) = self.fetch(column) {
+                sums.absorb(code, &block);
+            } else {
+                sums.skip(code);
+                if self.missing.too_many() {
+                    return None;
+                }
+                lost = lost.with(column)?;
             }
-            lost = lost.with(column)?;
         }
+        Some(Gathered { sums, lost })
     }
-    Some(Gathered { sums, lost })
 }

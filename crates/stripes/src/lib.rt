@@ -3,7 +3,7 @@
 
 mod columns;
 mod gather;
-mod marks;
+mod missing;
 mod rebuild;
 mod recovery;
 mod solve;

@@ -1,10 +1,10 @@
 // Recovery: the public call.
-ghost use Rattle.std.specs.Prelude.{◌≡◌, ℕ, ◌-◌, length, MatchResult};
+ghost use Rattle.std.specs.Prelude.{◌≡◌, ℕ, ◌-◌, length};
 ghost use Rattle.stripes.specs.Filling.{Fillings};
-ghost use Rattle.stripes.specs.Recovery.{Lawful, Unlawful, RecoverAnswer, RecoversCodeword, RecoversEncoded};
+ghost use Rattle.stripes.specs.Recovery.{PermitAnswer, RecoverAnswer, RecoversCodeword, RecoversEncoded};
 
-use crate::marks::stray_mark;
-use crate::rebuild::rebuild;
+use crate::columns::Recovery;
+use crate::missing::Missing;
 use codes::Code;
 use parity::fits;
 use racks::ReadingRack;
@@ -16,10 +16,10 @@ fn permit<R: ReadingRack, C: Code>(
     code: &C,
     stripe: u32,
     column: u8,
-    missing: u32,
+    missing: Missing,
     size: usize,
 ) -> Result<(), Refusal>
-    ensures { MatchResult result (λ _. Lawful (R.ReadingRack.meaning rack.now) (C.Code.bits code.now) (C.Code.period code.now) stripe column missing size) (λ e. Unlawful (R.ReadingRack.meaning rack.now) (C.Code.bits code.now) (C.Code.period code.now) stripe column missing size e) }
+    ensures { PermitAnswer (R.ReadingRack.meaning rack.now) (C.Code.bits code.now) (C.Code.period code.now) stripe column missing size result }
 {
     let drives = rack.drives();
     let blocks = rack.blocks();
@@ -32,7 +32,7 @@ fn permit<R: ReadingRack, C: Code>(
     if column >= drives {
         return Err(Refusal::NoDrive { drive: column });
     }
-    if let Some(drive) = stray_mark(missing, drives) {
+    if let Some(drive) = missing.stray(drives) {
         return Err(Refusal::NoDrive { drive });
     }
     if size != 512 {
@@ -43,7 +43,7 @@ fn permit<R: ReadingRack, C: Code>(
 
 // Recovers a column of a stripe into `buf`. `missing` marks the columns that are known to be missing; these are not read. The answer is the
 // result and the missing columns as known afterwards: a column joins them only because its drive did not answer. Each column is read at most
-// once, and none after more than two are missing.
+// once, and none after more than two are missing. By a rule of this repository callers keep the missing columns as a number of 32 bits.
 pub fn recover<R: ReadingRack, C: Code>(
     rack: &mut R,
     code: &C,
@@ -57,15 +57,18 @@ pub fn recover<R: ReadingRack, C: Code>(
     ensures encoded { RecoversEncoded (C.Code.bits code.now) (C.Code.period code.now) (C.Code.map code.now) (R.ReadingRack.meaning rack.old) stripe column result.0 result.1 buf.new }
     ensures fillings { Fillings (C.Code.bits code.now) (C.Code.period code.now) (C.Code.map code.now) }
 {
-    if let Err(refusal) = permit(rack, code, stripe, column, missing, buf.len()) {
+    let marked = Missing::from(missing);
+    if let Err(refusal) = permit(rack, code, stripe, column, marked, buf.len()) {
         return (Err(refusal), missing);
     }
-    if missing.count_ones() > 2 {
+    if marked.too_many() {
         return (Err(Refusal::TooManyMissing), missing);
     }
     let columns = rack.drives() - 2;
-    let mut known = missing;
-    match rebuild(rack, code, stripe, columns, column, &mut known) {
+    let mut recovery = Recovery::new(rack, code, stripe, columns, marked);
+    let rebuilt = recovery.rebuild(column);
+    let known = u32::from(recovery.end());
+    match rebuilt {
         Some(block) => {
             buf.copy_from_slice(&block);
             (Ok(()), known)

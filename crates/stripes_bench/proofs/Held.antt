@@ -1,12 +1,12 @@
--- The rack that stands for the columns, and a refusal's block.
-use Rattle.std.proofs.Common.{◌≡◌, ℕ, ◌+◌, ◌*◌, ◌%◌, ◌^◌, cond, eqb, List, length, Err, Result, ap, ◌∙◌, subst, arith}
+-- The rack that stands for the columns, and what is answered.
+use Rattle.std.proofs.Common.{◌≡◌, ℕ, ◌+◌, ◌*◌, ◌%◌, ◌^◌, Bool, cond, eqb, List, length, Ok, Err, Result, is_ok, MatchBool, ap, ◌∙◌, arith}
 use native.Mathlib.Nat.{zero-div}
 use Rattle.refusals.specs.declared.Refusal.{Refusal}
 use Rattle.racks.specs.declared.DriveState.TheVariants.{Live, Pulled}
 use Rattle.racks.specs.Image.{marked}
 use Rattle.racks.specs.Meaning.{Meaning}
 use Rattle.racks.specs.Layout.{flat, drives_of, blocks_of, start, block_at}
-use Rattle.stripes.specs.Recovery.{RecoverAnswer}
+use Rattle.stripes.specs.Recovery.{RecoverAnswer, Accepted}
 use Rattle.stripes_bench.specs.Columns.{Held}
 
 pub held : (D B : ℕ) (bytes columns : List ℕ) (pulled : ℕ) → drives_of D B (length bytes) ≡ drives_of 12 1 (length columns)
@@ -23,7 +23,8 @@ held D B bytes columns pulled drives blocks same none long =
           ap (λ b. block_at bytes (start b k 0)) one ∙ ap (λ m. block_at m ((k * 1 + 0) * 512)) same ∙ ap (block_at columns) first;
     }
 
-pub refused_same : (n N : ℕ) (g : ℕ → ℕ) (m : Meaning) (column missing : ℕ) (before : List ℕ) (r : Result (Unit {0}) Refusal) (e : Refusal) (missing' : ℕ) (m' : Meaning)
-    (after : List ℕ) → r ≡ Err e → RecoverAnswer n N g m 0 column missing before r missing' m' after → after ≡ before
-refused_same n N g m column missing before r e missing' m' after is answer =
-    (subst (λ x. RecoverAnswer n N g m 0 column missing before x missing' m' after) is answer).1
+pub answered : (n N : ℕ) (g : ℕ → ℕ) (m : Meaning) (column missing : ℕ) (before : List ℕ) (r : Result (Unit {0}) Refusal) (missing' : ℕ) (m' : Meaning) (after : List ℕ)
+    (done : Bool) → done ≡ is_ok r → RecoverAnswer n N g m 0 column missing before r missing' m' after
+    → MatchBool done ((x : ℕ) × (y : Meaning) × Accepted n N g m 0 column missing before x y after) (after ≡ before)
+answered n N g m column missing before (Ok _) missing' m' after done is answer = rw is (missing', m', answer)
+answered n N g m column missing before (Err e) missing' m' after done is answer = rw is (answer.1)

@@ -1,16 +1,38 @@
 // Encoding and recovery of a stripe of ten data columns, exported for the benchmark in bench/recover. Each call promises what the calls below it do.
 #![tactic(auto)]
 
-ghost use Rattle.std.specs.Prelude.{◌≡◌, true, false, MatchBool};
+ghost use Rattle.std.specs.Prelude.{◌≡◌, MatchBool};
 ghost use Rattle.codes.specs.Doubling.{shift, double};
 ghost use Rattle.parity.specs.Encoding.{Encoded};
 ghost use Rattle.stripes_bench.specs.Columns.{Answers};
 
 use codes::{ByteCode, Code, ShiftCode};
-use parity::encode;
-use racks::{ImageRack, ReadingRack};
+use parity::{Block, encode};
+use racks::ImageRack;
 use stripes::recover;
 
+fn encode_ten<C: Code>(code: &C, data: &[u8; 5120], p: &mut Block, q: &mut Block) -> bool
+    ensures { MatchBool result (Encoded (C.Code.bits code.now) (C.Code.period code.now) (C.Code.map code.now) 10 «data».now p.old q.old p.new q.new) ((p.new ≡ p.old) × (q.new ≡ q.old)) }
+{
+    encode(code, 10, data, p, q).is_ok()
+}
+
+// The twelve columns are drives of one block each.
+fn recover_of_twelve<C: Code>(
+    code: &C,
+    columns: &[u8; 6144],
+    column: u8,
+    missing: u32,
+    block: &mut Block,
+) -> bool
+    ensures { Answers (C.Code.bits code.now) (C.Code.period code.now) (C.Code.map code.now) columns.now column missing block.old result block.new }
+{
+    let mut rack = ImageRack::new(columns, 12, 1, 0);
+    let (answer, _) = recover(&mut rack, code, 0, column, missing, block);
+    answer.is_ok()
+}
+
+// C has neither generic functions nor a Result: so a name for each code, and whether it was done.
 #[unsafe(no_mangle)]
 pub extern "C" fn rotyague_encode_byte(
     data: &[u8; 5120],
@@ -19,10 +41,7 @@ pub extern "C" fn rotyague_encode_byte(
 ) -> bool
     ensures { MatchBool result (Encoded 8 255 double 10 «data».now p.old q.old p.new q.new) ((p.new ≡ p.old) × (q.new ≡ q.old)) }
 {
-    match encode(&ByteCode, 10, data, p, q) {
-        Ok(()) => true,
-        Err(_) => false,
-    }
+    encode_ten(&ByteCode, data, p, q)
 }
 
 #[unsafe(no_mangle)]
@@ -33,13 +52,9 @@ pub extern "C" fn rotyague_encode_shift(
 ) -> bool
     ensures { MatchBool result (Encoded 16 17 shift 10 «data».now p.old q.old p.new q.new) ((p.new ≡ p.old) × (q.new ≡ q.old)) }
 {
-    match encode(&ShiftCode, 10, data, p, q) {
-        Ok(()) => true,
-        Err(_) => false,
-    }
+    encode_ten(&ShiftCode, data, p, q)
 }
 
-// The twelve columns are drives of one block each.
 #[unsafe(no_mangle)]
 pub extern "C" fn rotyague_recover_byte(
     columns: &[u8; 6144],
@@ -49,12 +64,7 @@ pub extern "C" fn rotyague_recover_byte(
 ) -> bool
     ensures { Answers 8 255 double columns.now column missing block.old result block.new }
 {
-    let mut rack = ImageRack::new(columns, 12, 1, 0);
-    let (answer, _) = recover(&mut rack, &ByteCode, 0, column, missing, block);
-    match answer {
-        Ok(()) => true,
-        Err(_) => false,
-    }
+    recover_of_twelve(&ByteCode, columns, column, missing, block)
 }
 
 #[unsafe(no_mangle)]
@@ -66,10 +76,5 @@ pub extern "C" fn rotyague_recover_shift(
 ) -> bool
     ensures { Answers 16 17 shift columns.now column missing block.old result block.new }
 {
-    let mut rack = ImageRack::new(columns, 12, 1, 0);
-    let (answer, _) = recover(&mut rack, &ShiftCode, 0, column, missing, block);
-    match answer {
-        Ok(()) => true,
-        Err(_) => false,
-    }
+    recover_of_twelve(&ShiftCode, columns, column, missing, block)
 }

@@ -12,7 +12,7 @@ use test_racks::FailingRack;
 #[derive(Clone, Copy)]
 struct Example {
     drives: u8,
-    blocks: u32,
+    blocks: u8,
     stripe: u32,
     column: u8,
     missing: u32,
@@ -22,7 +22,7 @@ struct Example {
 
 fn call(
     drives: u8,
-    blocks: u32,
+    blocks: u8,
     stripe: u32,
     column: u8,
     missing: u32,
@@ -49,12 +49,12 @@ fn left_alone(rt: &impl Abort, buf: &[u8; 513], touches: u32) -> Result<(), Fail
 // Runs a call. Refused, it gives the marks back, and touches neither the buffer nor the rack.
 fn run<C: Code>(rt: &impl Abort, code: &C, example: &Example) -> Result<(), Fail> {
     let mut memory = [0; 32768];
-    let blocks = u32::from(example.drives).saturating_mul(example.blocks);
-    let bytes = blocks as usize * 512;
+    let bytes = usize::from(example.drives) * usize::from(example.blocks) * 512;
     if bytes > 32768 || example.size > 513 {
         return Err(Fail::new("no memory is as large"));
     }
-    let flat = FlatRack::new(&mut memory[0..bytes], example.drives, example.blocks);
+    let blocks = u32::from(example.blocks);
+    let flat = FlatRack::new(&mut memory[..bytes], example.drives, blocks);
     let mut rack = FailingRack::new(flat, &[]);
     let mut buf = [0xa5; 513];
     let (result, known) = recover(
@@ -63,7 +63,7 @@ fn run<C: Code>(rt: &impl Abort, code: &C, example: &Example) -> Result<(), Fail
         example.stripe,
         example.column,
         example.missing,
-        &mut buf[0..example.size],
+        &mut buf[..example.size],
     );
     assert_eq!(rt; result, example.answer);
     assert_eq!(rt; known, example.missing, "the marks changed");
@@ -117,7 +117,7 @@ fn refusals_in_order(rt: HostRuntime) -> Result<(), Fail> {
         call(5, 2, 1, 4, 0b1_1111, 512, many),
         call(5, 2, 1, 4, 0b1_0100, 512, Ok(())),
     ];
-    for example in calls.iter() {
+    for example in &calls {
         run(&rt, &code, example)?;
     }
     Ok(())

@@ -1,5 +1,5 @@
 // Drives that fail while a column is recovered.
-use crate::stripe::{Columns, STRIPE, bit, codeword, column_of, has, store};
+use crate::stripe::{STRIPE, Stripe, bit, has};
 use codes::{ByteCode, Code, MatrixCode, ShiftCode};
 use generator::record::Generator;
 use parity::Block;
@@ -22,101 +22,98 @@ fn failed_drives<R: ReadingRack>(rack: &R) -> Result<u32, Fail> {
     Ok(failed)
 }
 
-// No column was read twice or though it was marked, and just the asked one where it answered.
-fn few_touches(
-    rt: &impl Abort,
+// A recovery of a column, with marks given, from drives that fail at the touches in `at`.
+#[derive(Clone, Copy, Debug)]
+struct Attempt {
     width: u16,
     drives: u8,
     column: u8,
     marks: u32,
-    known: u32,
-    touches: u32,
-) -> Result<(), Fail> {
-    if has(known, column) {
+    at: [u32; 3],
+}
+
+impl Attempt {
+    // No column was read twice or though it was marked, and just the asked one where it answered.
+    fn touched_few(&self, rt: &impl Abort, known: u32, touches: u32) -> Result<(), Fail> {
+        if has(known, self.column) {
+            assert!(rt;
+                touches.saturating_add(self.marks.count_ones()) <= u32::from(self.drives),
+                "{self:?}"
+            );
+        } else {
+            assert_eq!(rt; touches, 1, "{self:?}");
+        }
+        Ok(())
+    }
+
+    // More than two columns are missing: the buffer is as it was, and it was the last touch that took the third column.
+    fn gave_up(
+        &self,
+        rt: &impl Abort,
+        answer: Result<(), Refusal>,
+        buf: &Block,
+        touches: u32,
+    ) -> Result<(), Fail> {
+        assert_eq!(rt; answer, Err(Refusal::TooManyMissing), "{self:?}");
+        assert!(rt; *buf == [0xa5; 512], "{self:?}: the buffer changed");
         assert!(rt;
-            touches.saturating_add(marks.count_ones()) <= u32::from(drives),
-            "width {width}, column {column}"
+            self.at.contains(&touches.wrapping_sub(1)),
+            "{self:?}: a touch too many"
         );
         Ok(())
-    } else {
-        assert_eq!(rt; touches, 1, "width {width}, column {column}");
-        Ok(())
     }
-}
 
-// More than two columns are missing: the buffer is as it was, and it was the last touch that took the third column.
-fn gave_up(
-    rt: &impl Abort,
-    width: u16,
-    res: Result<(), Refusal>,
-    buf: &Block,
-    touches: u32,
-    at: &[u32],
-) -> Result<(), Fail> {
-    assert_eq!(rt; res, Err(Refusal::TooManyMissing), "width {width}");
-    assert!(rt; *buf == [0xa5; 512], "width {width}: the buffer changed");
-    assert!(rt;
-        at.contains(&touches.wrapping_sub(1)),
-        "width {width}: a touch too many"
-    );
-    Ok(())
-}
-
-// Recovers a column, with `marks` given, from drives that fail at the touches in `at`.
-fn falters<C: Code>(
-    rt: &impl Abort,
-    code: &C,
-    columns: &Columns,
-    memory: &mut [u8],
-    drives: u8,
-    column: u8,
-    marks: u32,
-    at: &[u32],
-) -> Result<(), Fail> {
-    let mut rack = FailingRack::new(FlatRack::new(memory, drives, 2), at);
-    let mut buf = [0xa5; 512];
-    let (result, known) = recover(&mut rack, code, STRIPE, column, marks, &mut buf);
-    // The marks are those given and those of the drives that failed.
-    let width = code.width();
-    assert_eq!(rt;
-        known,
-        marks | failed_drives(&rack)?,
-        "width {width}, column {column}"
-    );
-    let touches = rack.touches();
-    if known.count_ones() > 2 {
-        return gave_up(rt, width, result, &buf, touches, at);
+    fn run<C: Code>(
+        &self,
+        rt: &impl Abort,
+        stripe: &Stripe<C>,
+        memory: &mut [u8],
+    ) -> Result<(), Fail> {
+        let mut rack = FailingRack::new(FlatRack::new(memory, self.drives, 2), &self.at);
+        let mut buf = [0xa5; 512];
+        let (answer, known) = recover(
+            &mut rack,
+            stripe.code,
+            STRIPE,
+            self.column,
+            self.marks,
+            &mut buf,
+        );
+        // The marks are those given and those of the drives that failed.
+        assert_eq!(rt; known, self.marks | failed_drives(&rack)?, "{self:?}");
+        let touches = rack.touches();
+        if known.count_ones() > 2 {
+            return self.gave_up(rt, answer, &buf, touches);
+        }
+        assert_eq!(rt; answer, Ok(()), "{self:?}");
+        assert!(rt; buf == *stripe.column(self.column)?, "{self:?}: the block");
+        self.touched_few(rt, known, touches)
     }
-    assert_eq!(rt; result, Ok(()), "width {width}, column {column}");
-    assert!(rt;
-        buf == column_of(columns, column)?,
-        "the block of width {width}, column {column}"
-    );
-    few_touches(rt, width, drives, column, marks, known, touches)
 }
 
 // At most two marks, and any three touches at which a drive fails; some of them may be the same, or lie behind the last touch.
-fn any_three<C: Code>(
-    rt: &impl Abort,
-    code: &C,
-    k: u8,
-    columns: &Columns,
-    marks: u32,
-) -> Result<(), Fail> {
-    if k > 5 {
+fn any_three<C: Code>(rt: &impl Abort, stripe: &Stripe<C>, marks: u32) -> Result<(), Fail> {
+    let drives = stripe.drives();
+    if drives > 7 {
         return Err(Fail::new("too many drives"));
     }
-    let drives = k + 2;
-    let size = drives as usize * 1024;
+    let size = usize::from(drives) * 1024;
     let mut memory = [0x5a; 7168];
-    let memory = &mut memory[0..size];
-    store(&mut FlatRack::new(memory, drives, 2), columns, marks)?;
+    let memory = &mut memory[..size];
+    stripe.store(&mut FlatRack::new(memory, drives, 2), marks)?;
+    let width = stripe.code.width();
     for column in 0..drives {
         for first in 0..9 {
             for second in first..9 {
                 for third in second..9 {
-                    let at = [first, second, third];
-                    falters(rt, code, columns, memory, drives, column, marks, &at)?;
+                    let attempt = Attempt {
+                        width,
+                        drives,
+                        column,
+                        marks,
+                        at: [first, second, third],
+                    };
+                    attempt.run(rt, stripe, memory)?;
                 }
             }
         }
@@ -125,12 +122,11 @@ fn any_three<C: Code>(
 }
 
 fn any_marks<C: Code>(rt: &impl Abort, code: &C, k: u8) -> Result<(), Fail> {
-    let mut columns = [0; 16384];
-    codeword(code, k, &mut columns)?;
-    any_three(rt, code, k, &columns, 0)?;
-    for high in 0..k.saturating_add(2) {
+    let stripe = Stripe::codeword(code, k)?;
+    any_three(rt, &stripe, 0)?;
+    for high in 0..stripe.drives() {
         for low in 0..=high {
-            any_three(rt, code, k, &columns, bit(low) | bit(high))?;
+            any_three(rt, &stripe, bit(low) | bit(high))?;
         }
     }
     Ok(())

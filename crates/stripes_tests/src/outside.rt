@@ -1,5 +1,5 @@
 // Blocks that another RAID-6 program recovered.
-use crate::stripe::{bit, fill, recovers, set_column, store};
+use crate::stripe::{Gone, Stripe, bit};
 use crate::vectors::*;
 use codes::ByteCode;
 use parity::Block;
@@ -20,17 +20,19 @@ fn agrees(
     if k > 30 {
         return Err(Fail::new("too many columns"));
     }
-    let drives = k + 2;
-    let mut columns = [0; 16384];
-    fill(k as u32, &mut columns);
+    let mut stripe = Stripe::filled(&ByteCode, k);
     let mut memory = [0; 32768];
-    let mut rack = FlatRack::new(&mut memory[0..drives as usize * 1024], drives, 2);
-    store(&mut rack, &columns, 0)?;
-    set_column(&mut columns, low, low_there)?;
-    set_column(&mut columns, high, high_there)?;
-    let lost = bit(low) | bit(high);
-    recovers(rt, &mut rack, &ByteCode, &columns, low, lost, 0)?;
-    recovers(rt, &mut rack, &ByteCode, &columns, high, lost, 0)
+    let size = usize::from(k + 2) * 1024;
+    let mut rack = FlatRack::new(&mut memory[..size], k + 2, 2);
+    stripe.store(&mut rack, 0)?;
+    stripe.set_column(low, low_there)?;
+    stripe.set_column(high, high_there)?;
+    let gone = Gone {
+        marks: bit(low) | bit(high),
+        silent: 0,
+    };
+    stripe.recovers(rt, &mut rack, low, gone)?;
+    stripe.recovers(rt, &mut rack, high, gone)
 }
 
 #[test]

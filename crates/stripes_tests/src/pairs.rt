@@ -1,5 +1,5 @@
 // Every set of at most two missing columns.
-use crate::stripe::{Columns, bit, codeword, recovers, store, survives};
+use crate::stripe::{Gone, Stripe, bit};
 use codes::{ByteCode, Code, MatrixCode, ShiftCode};
 use generator::record::Generator;
 use racks::{FlatRack, ImageRack, JoinedRack};
@@ -8,36 +8,28 @@ use std::test::Fail;
 use test_racks::DeadRack;
 
 // Two columns, or one where they are the same, each marked or else pulled.
-fn four_ways<C: Code>(
-    rt: &impl Abort,
-    code: &C,
-    columns: &Columns,
-    drives: u8,
-    low: u8,
-    high: u8,
-) -> Result<(), Fail> {
+fn four_ways<C: Code>(rt: &impl Abort, stripe: &Stripe<C>, low: u8, high: u8) -> Result<(), Fail> {
+    let drives = stripe.drives();
+    if drives > 7 {
+        return Err(Fail::new("too many drives"));
+    }
     let lost = bit(low) | bit(high);
     for pulled in [0, bit(low), bit(high), lost] {
         let mut memory = [0x5a; 7168];
-        if drives > 7 {
-            return Err(Fail::new("too many drives"));
-        }
-        let size = drives as usize * 1024;
-        let mut rack = FlatRack::new(&mut memory[0..size], drives, 2);
-        survives(rt, &mut rack, code, columns, lost, pulled)?;
+        let size = usize::from(drives) * 1024;
+        let mut rack = FlatRack::new(&mut memory[..size], drives, 2);
+        stripe.survives(rt, &mut rack, lost, pulled)?;
     }
     Ok(())
 }
 
 fn every_set<C: Code>(rt: &impl Abort, code: &C, k: u8) -> Result<(), Fail> {
-    let mut columns = [0; 16384];
-    codeword(code, k, &mut columns)?;
-    let drives = k.saturating_add(2);
+    let stripe = Stripe::codeword(code, k)?;
     // no column 32 is missing
-    four_ways(rt, code, &columns, drives, 32, 32)?;
-    for high in 0..drives {
+    four_ways(rt, &stripe, 32, 32)?;
+    for high in 0..stripe.drives() {
         for low in 0..=high {
-            four_ways(rt, code, &columns, drives, low, high)?;
+            four_ways(rt, &stripe, low, high)?;
         }
     }
     Ok(())
@@ -56,21 +48,24 @@ fn every_code(rt: HostRuntime) -> Result<(), Fail> {
 
 // The most columns that a code takes: every pair of them is recovered from an image, where one is marked and one is pulled.
 fn widest<C: Code>(rt: &impl Abort, code: &C, k: u8) -> Result<(), Fail> {
-    let mut columns = [0; 16384];
-    codeword(code, k, &mut columns)?;
-    let drives = k.saturating_add(2);
+    let stripe = Stripe::codeword(code, k)?;
+    let drives = stripe.drives();
     let mut memory = [0; 32768];
     if drives > 32 {
         return Err(Fail::new("too many drives"));
     }
-    let size = drives as usize * 1024;
-    let memory = &mut memory[0..size];
-    store(&mut FlatRack::new(memory, drives, 2), &columns, 0)?;
+    let size = usize::from(drives) * 1024;
+    let memory = &mut memory[..size];
+    stripe.store(&mut FlatRack::new(memory, drives, 2), 0)?;
     for high in 0..drives {
         for low in 0..high {
-            let mut rack = ImageRack::new(memory, drives, 2, bit(low));
-            recovers(rt, &mut rack, code, &columns, low, bit(high), bit(low))?;
-            recovers(rt, &mut rack, code, &columns, high, bit(high), bit(low))?;
+            let gone = Gone {
+                marks: bit(high),
+                silent: bit(low),
+            };
+            let mut rack = ImageRack::new(memory, drives, 2, gone.silent);
+            stripe.recovers(rt, &mut rack, low, gone)?;
+            stripe.recovers(rt, &mut rack, high, gone)?;
         }
     }
     Ok(())
@@ -83,29 +78,28 @@ fn widest_racks(rt: HostRuntime) -> Result<(), Fail> {
 }
 
 // Two racks side by side, with drives pulled in one or in both.
-fn joined(rt: &impl Abort, columns: &Columns, pulled: u32) -> Result<(), Fail> {
+fn joined(rt: &impl Abort, stripe: &Stripe<ByteCode>, pulled: u32) -> Result<(), Fail> {
     let mut left = [0x5a; 3072];
     let mut right = [0x5a; 4096];
     let first = FlatRack::new(&mut left, 3, 2);
     let second = FlatRack::new(&mut right, 4, 2);
     let mut rack = JoinedRack::new(first, second);
-    survives(rt, &mut rack, &ByteCode, columns, pulled, pulled)
+    stripe.survives(rt, &mut rack, pulled, pulled)
 }
 
 // The first two columns lie on a rack that is dead.
-fn half_dead(rt: &impl Abort, columns: &Columns) -> Result<(), Fail> {
+fn half_dead(rt: &impl Abort, stripe: &Stripe<ByteCode>) -> Result<(), Fail> {
     let mut memory = [0x5a; 5120];
     let live = FlatRack::new(&mut memory, 5, 2);
     let mut rack = JoinedRack::new(DeadRack::new(2, 2), live);
-    survives(rt, &mut rack, &ByteCode, columns, 0b11, 0b11)
+    stripe.survives(rt, &mut rack, 0b11, 0b11)
 }
 
 #[test]
 fn joined_racks(rt: HostRuntime) -> Result<(), Fail> {
-    let mut columns = [0; 16384];
-    codeword(&ByteCode, 5, &mut columns)?;
+    let stripe = Stripe::codeword(&ByteCode, 5)?;
     for pulled in [0, 0b1, 0b100_0000, 0b101, 0b1100, 0b110_0000] {
-        joined(&rt, &columns, pulled)?;
+        joined(&rt, &stripe, pulled)?;
     }
-    half_dead(&rt, &columns)
+    half_dead(&rt, &stripe)
 }
