@@ -16,14 +16,14 @@ type Columns = [u8; 5120];
 
 // Fills P and Q.
 fn encodes<C: Code>(code: &C, columns: &Columns, p: &mut Block, q: &mut Block) -> bool
-    ensures { MatchBool result (Encoded (C.Code.bits code.now) (C.Code.period code.now) (C.Code.map code.now) 10 columns.now p.old q.old p.new q.new) ((p.new ≡ p.old) × (q.new ≡ q.old)) }
+    ensures { MatchBool result (Encoded (C.bits code.now) (C.period code.now) (C.map code.now) 10 columns.now p.old q.old p.new q.new) ((p.new ≡ p.old) × (q.new ≡ q.old)) }
 {
     encode(code, 10, columns, p, q).is_ok()
 }
 
 // A power and the map that undoes 1 + g^z, prepared and applied to a block.
 fn maps<C: Code>(code: &C, z: u8, block: &mut Block)
-    ensures { (mid : List ℕ) × Multiplied (C.Code.bits code.now) (power (C.Code.map code.now) ((255 - z) % C.Code.period code.now)) block.old mid × Multiplied (C.Code.bits code.now) (undo (C.Code.period code.now) (C.Code.map code.now) z) mid block.new }
+    ensures { (mid : List ℕ) × Multiplied (C.bits code.now) (power (C.map code.now) ((255 - z) % C.period code.now)) block.old mid × Multiplied (C.bits code.now) (undo (C.period code.now) (C.map code.now) z) mid block.new }
 {
     WordMap::power(code, 255 - u32::from(z)).apply(block);
     WordMap::undo(code, z).apply(block);

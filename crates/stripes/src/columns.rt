@@ -16,8 +16,8 @@ pub struct Recovery<'rack, 'code, R: ReadingRack, C: Code> {
     pub stripe: u32,
     pub columns: u8,
     pub missing: Missing,
-    ghost spans: { Spans (R.ReadingRack.meaning rack.now) columns stripe },
-    ghost fits: { Fits (columns + 2) (C.Code.bits code.now) (C.Code.period code.now) } by { fits_prop },
+    ghost spans: { Spans (R.meaning rack.now) columns stripe },
+    ghost fits: { Fits (columns + 2) (C.bits code.now) (C.period code.now) } by { fits_prop },
 }
 
 impl<'rack, 'code, R: ReadingRack, C: Code> Recovery<'rack, 'code, R, C> {
@@ -35,8 +35,8 @@ impl<'rack, 'code, R: ReadingRack, C: Code> Recovery<'rack, 'code, R, C> {
         columns: u8,
         missing: Missing,
     ) -> Recovery<'rack, 'code, R, C>
-        requires spans { Spans (R.ReadingRack.meaning rack.old) columns stripe }
-        requires fits { Fits (columns + 2) (C.Code.bits code.now) (C.Code.period code.now) }
+        requires spans { Spans (R.meaning rack.old) columns stripe }
+        requires fits { Fits (columns + 2) (C.bits code.now) (C.period code.now) }
         ensures lender { result.rack.ghost_name ≡ rack.entry.ghost_name }
         ensures rack { result.rack.now ≡ rack.old }
         ensures code { result.code ≡ code.entry }
@@ -66,7 +66,7 @@ impl<'rack, 'code, R: ReadingRack, C: Code> Recovery<'rack, 'code, R, C> {
     pub fn fetch(&mut self, column: u8) -> Option<Block>
         requires { column < self.old.columns + 2 }
         ensures continues { Continues self.old self.new }
-        ensures fetched { Fetched (R.ReadingRack.meaning self.old.rack.now) self.old.missing self.old.stripe column result self.new.missing }
+        ensures fetched { Fetched (R.meaning self.old.rack.now) self.old.missing self.old.stripe column result self.new.missing }
     {
         if self.missing.contains(column) {
             return None;

@@ -19,7 +19,7 @@ fn permit<R: ReadingRack, C: Code>(
     missing: Missing,
     size: usize,
 ) -> Result<(), Refusal>
-    ensures { PermitAnswer (R.ReadingRack.meaning rack.now) (C.Code.bits code.now) (C.Code.period code.now) stripe column missing size result }
+    ensures { PermitAnswer (R.meaning rack.now) (C.bits code.now) (C.period code.now) stripe column missing size result }
 {
     let drives = rack.drives();
     let blocks = rack.blocks();
@@ -52,10 +52,10 @@ pub fn recover<R: ReadingRack, C: Code>(
     missing: u32,
     buf: &mut [u8],
 ) -> (Result<(), Refusal>, u32)
-    ensures answer { RecoverAnswer (C.Code.bits code.now) (C.Code.period code.now) (C.Code.map code.now) (R.ReadingRack.meaning rack.old) stripe column missing buf.old result.0 result.1 (R.ReadingRack.meaning rack.new) buf.new }
-    ensures codeword { RecoversCodeword (C.Code.bits code.now) (C.Code.map code.now) (R.ReadingRack.meaning rack.old) stripe column result.0 result.1 buf.new }
-    ensures encoded { RecoversEncoded (C.Code.bits code.now) (C.Code.period code.now) (C.Code.map code.now) (R.ReadingRack.meaning rack.old) stripe column result.0 result.1 buf.new }
-    ensures fillings { Fillings (C.Code.bits code.now) (C.Code.period code.now) (C.Code.map code.now) }
+    ensures answer { RecoverAnswer (C.bits code.now) (C.period code.now) (C.map code.now) (R.meaning rack.old) stripe column missing buf.old result.0 result.1 (R.meaning rack.new) buf.new }
+    ensures codeword { RecoversCodeword (C.bits code.now) (C.map code.now) (R.meaning rack.old) stripe column result.0 result.1 buf.new }
+    ensures encoded { RecoversEncoded (C.bits code.now) (C.period code.now) (C.map code.now) (R.meaning rack.old) stripe column result.0 result.1 buf.new }
+    ensures fillings { Fillings (C.bits code.now) (C.period code.now) (C.map code.now) }
 {
     let marked = Missing::from(missing);
     if let Err(refusal) = permit(rack, code, stripe, column, marked, buf.len()) {

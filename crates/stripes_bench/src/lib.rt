@@ -12,7 +12,7 @@ use racks::ImageRack;
 use stripes::recover;
 
 fn encode_ten<C: Code>(code: &C, data: &[u8; 5120], p: &mut Block, q: &mut Block) -> bool
-    ensures { MatchBool result (Encoded (C.Code.bits code.now) (C.Code.period code.now) (C.Code.map code.now) 10 «data».now p.old q.old p.new q.new) ((p.new ≡ p.old) × (q.new ≡ q.old)) }
+    ensures { MatchBool result (Encoded (C.bits code.now) (C.period code.now) (C.map code.now) 10 «data».now p.old q.old p.new q.new) ((p.new ≡ p.old) × (q.new ≡ q.old)) }
 {
     encode(code, 10, data, p, q).is_ok()
 }
@@ -25,7 +25,7 @@ fn recover_of_twelve<C: Code>(
     missing: u32,
     block: &mut Block,
 ) -> bool
-    ensures { Answers (C.Code.bits code.now) (C.Code.period code.now) (C.Code.map code.now) columns.now column missing block.old result block.new }
+    ensures { Answers (C.bits code.now) (C.period code.now) (C.map code.now) columns.now column missing block.old result block.new }
 {
     let mut rack = ImageRack::new(columns, 12, 1, 0);
     let (answer, _) = recover(&mut rack, code, 0, column, missing, block);
