@@ -15,8 +15,11 @@ pub struct ShiftCode;
 fn image(word: u16) -> u16
     ensures { result ≡ shift word }
 {
-    let carry = if word >= 0x8000 { 0xffff } else { 0 };
-    (word << 1) ^ carry
+    if word >= 0x8000 {
+        (word << 1) ^ 0xffff
+    } else {
+        word << 1
+    }
 }
 
 impl Code for ShiftCode {
