@@ -16,7 +16,7 @@ pub struct ByteCode;
 fn image(byte: u8) -> u8
     ensures { result ≡ double byte }
 {
-    // With the carry as a value of its own, recovery of a byte column takes 880 ns for 617.
+    // Not `let carry = if byte >= 0x80 { 0x1d } else { 0 };` and one `^`: so recovery of a column took 880 ns instead of 617.
     if byte >= 0x80 {
         (byte << 1) ^ 0x1d
     } else {
@@ -51,6 +51,7 @@ impl Code for ByteCode {
             return 0;
         }
         let log = u32::from(LOGS[usize::from(byte)]) + exponent % 255;
+        // `as`, since there is no `From<u32>` for usize
         u16::from(POWERS[(log % 255) as usize])
     }
 

@@ -11,7 +11,8 @@ use blocks::Block;
 #[derive(Clone, Copy)]
 pub struct ShiftCode;
 
-// g of a word: one turn of the seventeen bits. The byte code's differs in type and constants; a generic function would need more bounds than the two have lines.
+// g of a word: one turn of the seventeen bits. The byte code's differs in type and constants: a generic function would need more bounds
+// than the two have lines.
 fn image(word: u16) -> u16
     ensures { result ≡ shift word }
 {

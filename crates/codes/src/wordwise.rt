@@ -20,12 +20,12 @@ pub fn map_words<F: Fn(u16) -> u16>(block: &mut Block, image: F)
     ensures bytes { (k : ℕ) → slice_index block.new k < 256 }
     ensures words { (i : ℕ) → i < 256 → F.post image (word_of 16 block.old i) (word_of 16 block.new i) }
 {
-    // Filled in a loop: of a call that `array::from_fn` makes, a proof doesn't learn which block its closure saw.
+    // A loop, and not `array::from_fn`: there a lemma would have to follow the closure's calls, to say that each saw the block of the start.
     let mut words = [0; 256];
     for (i, word) in words.iter_mut().enumerate() {
         *word = u16::from_le_bytes([block[2 * i], block[2 * i + 1]]);
     }
-    // Written by place: through `as_chunks_mut`, a proof doesn't learn what the block holds afterwards.
+    // By place, as the words are read: through `as_chunks_mut` a proof doesn't learn what the block holds afterwards.
     for (i, word) in words.iter().enumerate() {
         let [low, high] = image(*word).to_le_bytes();
         block[2 * i] = low;

@@ -8,7 +8,8 @@ use crate::matrix::{Matrix, image, power};
 use crate::record::Generator;
 use refusals::Refusal;
 
-// A matrix of the right shape: `width` rows of `width` bits, and zeros up to sixteen rows.
+// A matrix of the right shape: `width` rows of `width` bits, and zeros up to sixteen rows. (`Generator` has the same fields flat, since its
+// clauses and the theorems name them.)
 #[derive(Clone, Copy)]
 struct Square {
     width: u16,
@@ -46,7 +47,7 @@ impl Square {
         (0..self.width).all(|i| image(repeated, 1 << i) == 1 << i)
     }
 
-    // Whether the matrix applied `exponent` times leaves a nonzero word as it is.
+    // Whether the matrix applied `exponent` times leaves a nonzero word as it is. A word fits 16 bits; the bound of the range may not.
     fn fixes_a_word(&self, exponent: u16) -> bool
         ensures { IsTrue result ↔ Fixes self.now.width exponent (image_of self.now.rows) }
     {
@@ -87,7 +88,8 @@ fn examine(width: u16, order: u16, rows: &[u16]) -> Result<Generator, Refusal>
     })
 }
 
-// Judges a matrix. The record is replaced whole where it is accepted, and stays as it was where it is refused.
+// Judges a matrix. By a rule of this project the caller's record is replaced whole where it is accepted, and stays as it was where it is refused; and
+// the width stands beside the rows, since another number of rows is refused.
 #[tactic(auto, using(crate::proofs::Verdicts::exactly))]
 pub fn judge(width: u16, order: u16, rows: &[u16], generator: &mut Generator) -> Result<(), Refusal>
     ensures verdict { Verdict width order rows.now result }

@@ -5,6 +5,7 @@ ghost use Rattle.generator.specs.Matrix.{parity as parity_of, image as image_of}
 
 use std::array;
 
+// Sixteen rows whatever the width: a core crate has no heap.
 pub type Matrix = [u16; 16];
 
 // 1 where an odd number of bits is set.

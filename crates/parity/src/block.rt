@@ -6,7 +6,7 @@ use blocks::Block;
 pub fn add(sum: &mut Block, block: &Block)
     ensures { Added sum.old block.now sum.new }
 {
-    // not `sum.iter_mut().zip(block)`: of what is written through an adapter of `iter_mut` a proof knows nothing
+    // Not `sum.iter_mut().zip(block)`: of what is written through `zip` a proof knows nothing.
     for (k, byte) in block.iter().enumerate() {
         sum[k] ^= *byte;
     }

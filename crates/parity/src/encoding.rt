@@ -17,7 +17,8 @@ pub fn fits<C: Code>(code: &C, drives: u16) -> bool
         && drives - 2 <= code.order()
 }
 
-// Fills P and Q for the stripe whose k data columns stand in `data`, one block after the other.
+// Fills P and Q for the stripe whose k data columns stand in `data`, one block after the other. The count stands beside the data, since the
+// call promises a refusal where the two differ.
 pub fn encode<C: Code>(
     code: &C,
     k: u8,
@@ -35,7 +36,7 @@ pub fn encode<C: Code>(
     }
     let mut sums = Sums::zero();
     let (blocks, _) = data.as_chunks::<BLOCK_SIZE>();
-    // `&block` copies it: without that, encoding by the shift code takes 6 % longer
+    // `&block` copies it: without that, encoding by the shift code took 6 % longer.
     for &block in blocks.iter().rev() {
         sums.absorb(code, &block);
     }

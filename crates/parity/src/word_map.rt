@@ -65,6 +65,7 @@ impl WordMap {
                 images: array::from_fn(|b| 1 << b),
             };
         }
+        // Two loops over the bits' places: with one over all sixteen and a `%`, two maps prepared and applied took 463 ns instead of 405.
         let mut images = [0; 16];
         for t in 0..width {
             images[usize::from(t)] = image(1 << t);
@@ -105,6 +106,7 @@ impl WordMap {
     fn byte_images(&self) -> Option<[u8; 8]>
         ensures { IfSome result (λ low. Bytewise low self.now.images) }
     {
+        // By place, since each image of the lower half is compared with one of the upper.
         let mut bytes = [0; 8];
         for (b, byte) in bytes.iter_mut().enumerate() {
             let image = self.images[b];

@@ -10,8 +10,8 @@ use crate::layout::Layout;
 use crate::rack::ReadingRack;
 use refusals::Refusal;
 
-// Bit d of `pulled` says that drive d is pulled; every other drive is live. No call changes anything. The layout is made anew for each
-// call: with a ghost field that says that it fits, this rack, joined to a flat one, could not be joined to a third, since the borrow
+// Bit d of `pulled` says that drive d is pulled; every other drive is live. By a rule of this project callers give these marks as a number of
+// 32 bits. No call changes anything. The layout is made anew for each call: with a ghost field that says that it fits, this rack, joined to a flat one, could not be joined to a third, since the borrow
 // checker does not cover that.
 #[derive(Drop)]
 pub struct ImageRack<'a> {

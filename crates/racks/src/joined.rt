@@ -16,11 +16,13 @@ use refusals::Refusal;
 pub struct JoinedRack<A: ReadingRack, B: ReadingRack> {
     first: A,
     second: B,
-    // Found once: in a nest of racks each call would ask all of them again and again.
+    // Found once, by `new`: a call would have to ask both racks for both sizes. It stands beside the racks and not round them, since
+    // `into_racks` gives both back in any case.
     agreed: bool,
 }
 
-// Whose drive it is, and its number there.
+// Whose drive it is, and its number there. Each call below matches the side itself: the two racks differ in type, so one function of
+// them all would take a closure for each, and no call would be shorter.
 #[derive(Clone, Copy)]
 enum Side {
     First(u8),

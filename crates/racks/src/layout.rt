@@ -12,13 +12,13 @@ pub struct Layout {
     pub blocks: u32,
 }
 
-// A u32 goes into a usize by `as`, since there is no `From` for it.
 impl Layout {
     // The sizes asked for, if they keep within the limits and there are just that many bytes; else none at all.
     pub fn of(drives: u8, blocks: u32, bytes: usize) -> Layout
         ensures drives { result.drives ≡ drives_of drives blocks bytes }
         ensures blocks { result.blocks ≡ blocks_of drives blocks bytes }
     {
+        // A u32 goes into a usize by `as`, here and below, since there is no `From` for it.
         let fits = drives <= MAX_DRIVES
             && blocks <= MAX_BLOCKS
             && bytes == usize::from(drives) * blocks as usize * BLOCK_SIZE;
@@ -52,7 +52,8 @@ impl Layout {
         bytes[at..at + BLOCK_SIZE].copy_from_slice(buf);
     }
 
-    // Where a block begins.
+    // Where a block begins. (`as_chunks` would count in blocks, but what is written through `as_chunks_mut` a proof doesn't learn; so both
+    // copies go by bytes.)
     fn start(self, drive: u8, block: u32) -> usize
         ensures { result ≡ start self.blocks drive block }
     {

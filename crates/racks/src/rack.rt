@@ -44,7 +44,8 @@ pub trait ReadingRack {
         Ok(())
     }
 
-    // Fills the buffer with a block of a live drive; or that drive fails in this call.
+    // Fills the buffer with a block of a live drive; or that drive fails in this call. (Drive and block are no struct: each caller would make
+    // it, and each rack take it apart.)
     fn read(&mut self, drive: u8, block: u32, buf: &mut [u8]) -> Result<(), Refusal>
         ensures { ReadAnswer (meaning self.old) drive block buf.old result (meaning self.new) buf.new };
 }

@@ -129,3 +129,23 @@ fn nested(rt: HostRuntime) -> Result<(), Fail> {
     assert_eq!(rt; rack.state(2), Ok(DriveState::Live));
     Ok(())
 }
+
+// Flat racks within joined ones within others: a rack that borrows memory stands anywhere in a nest.
+#[test]
+fn nested_flat(rt: HostRuntime) -> Result<(), Fail> {
+    let mut left = [1; 1024];
+    let mut right = [2; 1024];
+    let mut memory = [3; 1024];
+    let first = FlatRack::new(&mut left, 2, 1);
+    let second = FlatRack::new(&mut right, 2, 1);
+    let inner = FailingRack::new(JoinedRack::new(first, second), &[1]);
+    let mut rack = JoinedRack::new(FlatRack::new(&mut memory, 2, 1), inner);
+    assert_eq!(rt; rack.drives(), 6);
+    assert_eq!(rt; read_block(&mut rack, 3, 0), Ok([1; 512]));
+    assert_eq!(rt; rack.pull(1), Ok(()));
+    assert_eq!(rt;
+        read_block(&mut rack, 4, 0),
+        Err(Refusal::NotLive { drive: 4, block: 0 })
+    );
+    Ok(())
+}

@@ -8,7 +8,8 @@ pub fn read_block<R: ReadingRack>(
     drive: u8,
     block: u32,
 ) -> Result<[u8; 512], Refusal> {
-    let mut buf = [0; 512];
+    // bytes that no rack of the tests holds
+    let mut buf = [0xa5; 512];
     rack.read(drive, block, &mut buf)?;
     Ok(buf)
 }

@@ -71,6 +71,7 @@ impl fmt::Display for Refusal {
             | Refusal::NotCyclic
             | Refusal::BufferSize
             | Refusal::DoesNotFit
+            // as a number: with "0" as text, the proof that it is what a number prints did not close
             | Refusal::TooManyMissing => write!(f, "{}", 0u8),
         }
     }

@@ -23,7 +23,8 @@ pub fn row_line(text: &[u8], width: RowWidth) -> Option<(u16, &[u8])>
     Some((bits(columns)?, rest))
 }
 
-// The row whose columns these digits are: the last of them is the highest bit, so they are taken from the last.
+// The row whose columns these digits are: the last of them is the highest bit, so they are taken from the last. (`decimal` takes its digits
+// from the first, in base 10: one function of both would be longer than the two loops.)
 fn bits(columns: &[u8]) -> Option<u16>
     requires { length columns.now ≤ 16 }
     ensures { MatchOption result (NoDigits columns.now) (λ row. (row < 2 ^ length columns.now) × (columns.now ≡ digits (length columns.now) row)) }
@@ -61,7 +62,7 @@ fn decimal(digits: &[u8]) -> Option<u16>
     Some(value)
 }
 
-// What a digit of this base stands for. (`char::to_digit` would give a u32, and take letters where the base is above 10.)
+// What a digit of this base stands for. (`char::to_digit` would give a u32.)
 fn digit(byte: u8, base: u8) -> Option<u16>
     ensures { MatchOption result ((d : ℕ) → d < base → byte ≢ 48 + d) (λ d. (d < base) × (byte ≡ 48 + d)) }
 {
