@@ -14,9 +14,8 @@ use test_racks::FailingRack;
 fn failed_drives<R: ReadingRack>(rack: &R) -> Result<u32, Fail> {
     let mut failed = 0;
     for drive in 0..rack.drives() {
-        match rack.state(drive)? {
-            DriveState::Live => {}
-            DriveState::Failed | DriveState::Pulled => failed |= bit(drive),
+        if rack.state(drive)? != DriveState::Live {
+            failed |= bit(drive);
         }
     }
     Ok(failed)

@@ -53,25 +53,21 @@ impl<'a, C: Code> Stripe<'a, C> {
     }
 
     fn data(&self) -> Result<&[u8], Fail> {
-        match self.columns.get(..usize::from(self.k)) {
-            Some(columns) => Ok(columns.as_flattened()),
-            None => Err(Fail::new("too many columns")),
-        }
+        let columns = self.columns.get(..usize::from(self.k));
+        columns
+            .map(|columns| columns.as_flattened())
+            .ok_or_else(|| Fail::new("too many columns"))
     }
 
     pub fn set_column(&mut self, column: u8, block: &Block) -> Result<(), Fail> {
-        if column >= 32 {
-            return Err(Fail::new("no such column"));
-        }
-        self.columns[usize::from(column)] = *block;
+        let place = self.columns.get_mut(usize::from(column));
+        *place.ok_or_else(|| Fail::new("no such column"))? = *block;
         Ok(())
     }
 
     pub fn column(&self, column: u8) -> Result<&Block, Fail> {
-        match self.columns.get(usize::from(column)) {
-            Some(block) => Ok(block),
-            None => Err(Fail::new("no such column")),
-        }
+        let block = self.columns.get(usize::from(column));
+        block.ok_or_else(|| Fail::new("no such column"))
     }
 
     // How many drives hold it.
