@@ -45,13 +45,7 @@ impl Attempt {
     }
 
     // More than two columns are missing: the buffer is as it was, and it was the last touch that took the third column.
-    fn gave_up(
-        &self,
-        rt: &impl Abort,
-        answer: Result<(), Refusal>,
-        buf: &Block,
-        touches: u32,
-    ) {
+    fn gave_up(&self, rt: &impl Abort, answer: Result<(), Refusal>, buf: &Block, touches: u32) {
         assert_eq!(rt; answer, Err(Refusal::TooManyMissing), "{self:?}");
         assert!(rt; *buf == [0xa5; 512], "{self:?}: the buffer changed");
         assert!(rt;
