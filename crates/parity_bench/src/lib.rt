@@ -1,12 +1,9 @@
 // Encoding and the maps of recovery, exported for the benchmark in bench/encode. Each call promises what the calls below it do.
 #![tactic(auto)]
 
-ghost use Rattle.std.specs.Prelude.{◌≡◌, ℕ, ◌-◌, ◌%◌, true, false, List, MatchBool};
-ghost use Rattle.codes.specs.Blocks.{Multiplied};
 ghost use Rattle.codes.specs.Doubling.{shift, double};
-ghost use Rattle.cyclic.specs.Maps.{power};
-ghost use Rattle.cyclic.specs.Theorems.{undo};
-ghost use Rattle.parity.specs.Encoding.{Encoded};
+ghost use Rattle.parity_bench.specs.Encodes.{Encodes};
+ghost use Rattle.parity_bench.specs.Maps.{Maps};
 
 use codes::{ByteCode, Code, ShiftCode};
 use parity::{Block, WordMap, encode};
@@ -15,52 +12,45 @@ use parity::{Block, WordMap, encode};
 type Columns = [u8; 5120];
 
 // Fills P and Q.
-fn encodes<C: Code>(code: &C, columns: &Columns, p: &mut Block, q: &mut Block) -> bool
-    ensures { MatchBool result (Encoded (C.bits code.now) (C.period code.now) (C.map code.now) 10 columns.now p.old q.old p.new q.new) ((p.new ≡ p.old) × (q.new ≡ q.old)) }
+fn encode_ten<C: Code>(code: &C, columns: &Columns, p: &mut Block, q: &mut Block) -> bool
+    ensures { Encodes (C.bits code.now) (C.period code.now) (C.map code.now) columns.now p.old q.old result p.new q.new }
 {
     encode(code, 10, columns, p, q).is_ok()
 }
 
 // A power and the map that undoes 1 + g^z, prepared and applied to a block.
 fn maps<C: Code>(code: &C, z: u8, block: &mut Block)
-    ensures { (mid : List ℕ) × Multiplied (C.bits code.now) (power (C.map code.now) ((255 - z) % C.period code.now)) block.old mid × Multiplied (C.bits code.now) (undo (C.period code.now) (C.map code.now) z) mid block.new }
+    ensures { Maps (C.bits code.now) (C.period code.now) (C.map code.now) z block.old block.new }
 {
     WordMap::power(code, 255 - u32::from(z)).apply(block);
     WordMap::undo(code, z).apply(block);
 }
 
+// C has neither generic functions nor a Result: so a name for each code, and whether it was done.
 #[unsafe(no_mangle)]
-pub extern "C" fn rotyague_encode_byte(
-    data: &[u8; 5120],
-    p: &mut [u8; 512],
-    q: &mut [u8; 512],
-) -> bool
-    ensures { MatchBool result (Encoded 8 255 double 10 «data».now p.old q.old p.new q.new) ((p.new ≡ p.old) × (q.new ≡ q.old)) }
+pub extern "C" fn rotyague_encode_byte(data: &Columns, p: &mut Block, q: &mut Block) -> bool
+    ensures { Encodes 8 255 double «data».now p.old q.old result p.new q.new }
 {
-    encodes(&ByteCode, data, p, q)
+    encode_ten(&ByteCode, data, p, q)
 }
 
 #[unsafe(no_mangle)]
-pub extern "C" fn rotyague_encode_shift(
-    data: &[u8; 5120],
-    p: &mut [u8; 512],
-    q: &mut [u8; 512],
-) -> bool
-    ensures { MatchBool result (Encoded 16 17 shift 10 «data».now p.old q.old p.new q.new) ((p.new ≡ p.old) × (q.new ≡ q.old)) }
+pub extern "C" fn rotyague_encode_shift(data: &Columns, p: &mut Block, q: &mut Block) -> bool
+    ensures { Encodes 16 17 shift «data».now p.old q.old result p.new q.new }
 {
-    encodes(&ShiftCode, data, p, q)
+    encode_ten(&ShiftCode, data, p, q)
 }
 
 #[unsafe(no_mangle)]
-pub extern "C" fn rotyague_maps_byte(z: u8, block: &mut [u8; 512])
-    ensures { (mid : List ℕ) × Multiplied 8 (power double ((255 - z) % 255)) block.old mid × Multiplied 8 (undo 255 double z) mid block.new }
+pub extern "C" fn rotyague_maps_byte(z: u8, block: &mut Block)
+    ensures { Maps 8 255 double z block.old block.new }
 {
     maps(&ByteCode, z, block);
 }
 
 #[unsafe(no_mangle)]
-pub extern "C" fn rotyague_maps_shift(z: u8, block: &mut [u8; 512])
-    ensures { (mid : List ℕ) × Multiplied 16 (power shift ((255 - z) % 17)) block.old mid × Multiplied 16 (undo 17 shift z) mid block.new }
+pub extern "C" fn rotyague_maps_shift(z: u8, block: &mut Block)
+    ensures { Maps 16 17 shift z block.old block.new }
 {
     maps(&ShiftCode, z, block);
 }

@@ -4,8 +4,8 @@ ghost use Rattle.parity.specs.Codeword.{Fits};
 ghost use Rattle.stripes.specs.Spans.{Spans, fits_prop};
 
 use crate::missing::Missing;
+use blocks::{BLOCK_SIZE, Block};
 use codes::Code;
-use parity::Block;
 use racks::ReadingRack;
 
 // A recovery under way: a stripe of so many data columns, with P and Q behind them, and which of its columns are missing so far.
@@ -14,6 +14,7 @@ pub struct Recovery<'rack, 'code, R: ReadingRack, C: Code> {
     pub rack: &'rack mut R,
     pub code: &'code C,
     pub stripe: u32,
+    // How many columns of data; P and Q come after them.
     pub columns: u8,
     pub missing: Missing,
     ghost spans: { Spans (R.meaning rack.now) columns stripe },
@@ -71,7 +72,7 @@ impl<'rack, 'code, R: ReadingRack, C: Code> Recovery<'rack, 'code, R, C> {
         if self.missing.contains(column) {
             return None;
         }
-        let mut block = [0; 512];
+        let mut block = [0; BLOCK_SIZE];
         match self.rack.read(column, self.stripe, &mut block) {
             Ok(()) => Some(block),
             Err(_) => {

@@ -61,7 +61,7 @@ impl Missing {
     pub fn stray(self, drives: u8) -> Option<u8>
         ensures { StrayMark drives self result }
     {
-        // The proof learns that there are 32 bits.
+        // Does nothing: by it the proof sees that the marks fit 32 bits.
         let _ = &self.marks;
         (drives..32).find(|&column| self.contains(column))
     }

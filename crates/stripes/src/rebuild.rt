@@ -4,8 +4,9 @@ ghost use Rattle.stripes.specs.Recovering.{Continues, Completes, Rebuilds};
 
 use crate::columns::Recovery;
 use crate::gather::Lost;
+use blocks::Block;
 use codes::Code;
-use parity::{Block, Sums, WordMap, add};
+use parity::{Sums, WordMap, add};
 use racks::ReadingRack;
 
 impl<R: ReadingRack, C: Code> Recovery<'_, '_, R, C> {

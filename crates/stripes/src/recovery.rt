@@ -5,6 +5,7 @@ ghost use Rattle.stripes.specs.Recovery.{PermitAnswer, RecoverAnswer, RecoversCo
 
 use crate::columns::Recovery;
 use crate::missing::Missing;
+use blocks::{BLOCK_SIZE, MAX_BLOCKS};
 use codes::Code;
 use parity::fits;
 use racks::ReadingRack;
@@ -23,7 +24,7 @@ fn permit<R: ReadingRack, C: Code>(
 {
     let drives = rack.drives();
     let blocks = rack.blocks();
-    if !fits(code, u16::from(drives)) || blocks < 1 || blocks > 65536 {
+    if !fits(code, u16::from(drives)) || !(1..=MAX_BLOCKS).contains(&blocks) {
         return Err(Refusal::DoesNotFit);
     }
     if stripe >= blocks {
@@ -35,7 +36,7 @@ fn permit<R: ReadingRack, C: Code>(
     if let Some(drive) = missing.stray(drives) {
         return Err(Refusal::NoDrive { drive });
     }
-    if size != 512 {
+    if size != BLOCK_SIZE {
         return Err(Refusal::BufferSize);
     }
     Ok(())

@@ -4,8 +4,9 @@ ghost use Rattle.stripes.specs.Recovering.{Continues, SolvesOne, SolvesTwo};
 ghost use Rattle.stripes.specs.Solved.{SameData};
 
 use crate::columns::Recovery;
+use blocks::Block;
 use codes::Code;
-use parity::{Block, Sums, WordMap, add};
+use parity::{Sums, WordMap, add};
 use racks::ReadingRack;
 
 // Two data columns of a stripe, the lower one first.

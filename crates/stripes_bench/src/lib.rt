@@ -1,18 +1,17 @@
 // Encoding and recovery of a stripe of ten data columns, exported for the benchmark in bench/recover. Each call promises what the calls below it do.
 #![tactic(auto)]
 
-ghost use Rattle.std.specs.Prelude.{◌≡◌, MatchBool};
 ghost use Rattle.codes.specs.Doubling.{shift, double};
-ghost use Rattle.parity.specs.Encoding.{Encoded};
-ghost use Rattle.stripes_bench.specs.Columns.{Answers};
+ghost use Rattle.stripes_bench.specs.Columns.{Answers, Encodes};
 
 use codes::{ByteCode, Code, ShiftCode};
 use parity::{Block, encode};
 use racks::ImageRack;
 use stripes::recover;
 
+// The same as in parity_bench: two libraries that export the same C names cannot stand on one another.
 fn encode_ten<C: Code>(code: &C, data: &[u8; 5120], p: &mut Block, q: &mut Block) -> bool
-    ensures { MatchBool result (Encoded (C.bits code.now) (C.period code.now) (C.map code.now) 10 «data».now p.old q.old p.new q.new) ((p.new ≡ p.old) × (q.new ≡ q.old)) }
+    ensures { Encodes (C.bits code.now) (C.period code.now) (C.map code.now) «data».now p.old q.old result p.new q.new }
 {
     encode(code, 10, data, p, q).is_ok()
 }
@@ -34,23 +33,15 @@ fn recover_of_twelve<C: Code>(
 
 // C has neither generic functions nor a Result: so a name for each code, and whether it was done.
 #[unsafe(no_mangle)]
-pub extern "C" fn rotyague_encode_byte(
-    data: &[u8; 5120],
-    p: &mut [u8; 512],
-    q: &mut [u8; 512],
-) -> bool
-    ensures { MatchBool result (Encoded 8 255 double 10 «data».now p.old q.old p.new q.new) ((p.new ≡ p.old) × (q.new ≡ q.old)) }
+pub extern "C" fn rotyague_encode_byte(data: &[u8; 5120], p: &mut Block, q: &mut Block) -> bool
+    ensures { Encodes 8 255 double «data».now p.old q.old result p.new q.new }
 {
     encode_ten(&ByteCode, data, p, q)
 }
 
 #[unsafe(no_mangle)]
-pub extern "C" fn rotyague_encode_shift(
-    data: &[u8; 5120],
-    p: &mut [u8; 512],
-    q: &mut [u8; 512],
-) -> bool
-    ensures { MatchBool result (Encoded 16 17 shift 10 «data».now p.old q.old p.new q.new) ((p.new ≡ p.old) × (q.new ≡ q.old)) }
+pub extern "C" fn rotyague_encode_shift(data: &[u8; 5120], p: &mut Block, q: &mut Block) -> bool
+    ensures { Encodes 16 17 shift «data».now p.old q.old result p.new q.new }
 {
     encode_ten(&ShiftCode, data, p, q)
 }
@@ -60,7 +51,7 @@ pub extern "C" fn rotyague_recover_byte(
     columns: &[u8; 6144],
     column: u8,
     missing: u32,
-    block: &mut [u8; 512],
+    block: &mut Block,
 ) -> bool
     ensures { Answers 8 255 double columns.now column missing block.old result block.new }
 {
@@ -72,7 +63,7 @@ pub extern "C" fn rotyague_recover_shift(
     columns: &[u8; 6144],
     column: u8,
     missing: u32,
-    block: &mut [u8; 512],
+    block: &mut Block,
 ) -> bool
     ensures { Answers 16 17 shift columns.now column missing block.old result block.new }
 {

@@ -20,6 +20,7 @@ struct Example {
     answer: Result<(), Refusal>,
 }
 
+// So that the table below has one line for each call.
 fn call(
     drives: u8,
     blocks: u8,
@@ -40,10 +41,9 @@ fn call(
     }
 }
 
-fn left_alone(rt: &impl Abort, buf: &[u8; 513], touches: u32) -> Result<(), Fail> {
+fn left_alone(rt: &impl Abort, buf: &[u8; 513], touches: u32) {
     assert!(rt; *buf == [0xa5; 513], "the buffer changed");
     assert_eq!(rt; touches, 0, "the rack was touched");
-    Ok(())
 }
 
 // Runs a call. Refused, it gives the marks back, and touches neither the buffer nor the rack.
@@ -68,7 +68,7 @@ fn run<C: Code>(rt: &impl Abort, code: &C, example: &Example) -> Result<(), Fail
     assert_eq!(rt; result, example.answer);
     assert_eq!(rt; known, example.missing, "the marks changed");
     if result.is_err() {
-        return left_alone(rt, &buf, rack.touches());
+        left_alone(rt, &buf, rack.touches());
     }
     Ok(())
 }

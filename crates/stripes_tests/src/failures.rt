@@ -14,9 +14,8 @@ use test_racks::FailingRack;
 fn failed_drives<R: ReadingRack>(rack: &R) -> Result<u32, Fail> {
     let mut failed = 0;
     for drive in 0..rack.drives() {
-        match rack.state(drive)? {
-            DriveState::Live => {}
-            DriveState::Failed | DriveState::Pulled => failed |= bit(drive),
+        if rack.state(drive)? != DriveState::Live {
+            failed |= bit(drive);
         }
     }
     Ok(failed)
@@ -34,7 +33,7 @@ struct Attempt {
 
 impl Attempt {
     // No column was read twice or though it was marked, and just the asked one where it answered.
-    fn touched_few(&self, rt: &impl Abort, known: u32, touches: u32) -> Result<(), Fail> {
+    fn touched_few(&self, rt: &impl Abort, known: u32, touches: u32) {
         if has(known, self.column) {
             assert!(rt;
                 touches.saturating_add(self.marks.count_ones()) <= u32::from(self.drives),
@@ -43,24 +42,16 @@ impl Attempt {
         } else {
             assert_eq!(rt; touches, 1, "{self:?}");
         }
-        Ok(())
     }
 
     // More than two columns are missing: the buffer is as it was, and it was the last touch that took the third column.
-    fn gave_up(
-        &self,
-        rt: &impl Abort,
-        answer: Result<(), Refusal>,
-        buf: &Block,
-        touches: u32,
-    ) -> Result<(), Fail> {
+    fn gave_up(&self, rt: &impl Abort, answer: Result<(), Refusal>, buf: &Block, touches: u32) {
         assert_eq!(rt; answer, Err(Refusal::TooManyMissing), "{self:?}");
         assert!(rt; *buf == [0xa5; 512], "{self:?}: the buffer changed");
         assert!(rt;
             self.at.contains(&touches.wrapping_sub(1)),
             "{self:?}: a touch too many"
         );
-        Ok(())
     }
 
     fn run<C: Code>(
@@ -83,11 +74,13 @@ impl Attempt {
         assert_eq!(rt; known, self.marks | failed_drives(&rack)?, "{self:?}");
         let touches = rack.touches();
         if known.count_ones() > 2 {
-            return self.gave_up(rt, answer, &buf, touches);
+            self.gave_up(rt, answer, &buf, touches);
+        } else {
+            assert_eq!(rt; answer, Ok(()), "{self:?}");
+            assert!(rt; buf == *stripe.column(self.column)?, "{self:?}: the block");
+            self.touched_few(rt, known, touches);
         }
-        assert_eq!(rt; answer, Ok(()), "{self:?}");
-        assert!(rt; buf == *stripe.column(self.column)?, "{self:?}: the block");
-        self.touched_few(rt, known, touches)
+        Ok(())
     }
 }
 
@@ -121,12 +114,11 @@ fn any_three<C: Code>(rt: &impl Abort, stripe: &Stripe<C>, marks: u32) -> Result
     Ok(())
 }
 
-fn any_marks<C: Code>(rt: &impl Abort, code: &C, k: u8) -> Result<(), Fail> {
-    let stripe = Stripe::codeword(code, k)?;
-    any_three(rt, &stripe, 0)?;
+fn any_marks<C: Code>(rt: &impl Abort, stripe: &Stripe<C>) -> Result<(), Fail> {
+    any_three(rt, stripe, 0)?;
     for high in 0..stripe.drives() {
         for low in 0..=high {
-            any_three(rt, &stripe, bit(low) | bit(high))?;
+            any_three(rt, stripe, bit(low) | bit(high))?;
         }
     }
     Ok(())
@@ -134,7 +126,8 @@ fn any_marks<C: Code>(rt: &impl Abort, code: &C, k: u8) -> Result<(), Fail> {
 
 #[test]
 fn every_code(rt: HostRuntime) -> Result<(), Fail> {
-    any_marks(&rt, &ShiftCode, 5)?;
-    any_marks(&rt, &ByteCode, 5)?;
-    any_marks(&rt, &MatrixCode::new(Generator::fresh()), 3)
+    any_marks(&rt, &Stripe::codeword(&ShiftCode, 5)?)?;
+    any_marks(&rt, &Stripe::codeword(&ByteCode, 5)?)?;
+    let matrix = MatrixCode::new(Generator::fresh());
+    any_marks(&rt, &Stripe::codeword(&matrix, 3)?)
 }

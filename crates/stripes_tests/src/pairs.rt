@@ -23,13 +23,12 @@ fn four_ways<C: Code>(rt: &impl Abort, stripe: &Stripe<C>, low: u8, high: u8) ->
     Ok(())
 }
 
-fn every_set<C: Code>(rt: &impl Abort, code: &C, k: u8) -> Result<(), Fail> {
-    let stripe = Stripe::codeword(code, k)?;
+fn every_set<C: Code>(rt: &impl Abort, stripe: &Stripe<C>) -> Result<(), Fail> {
     // no column 32 is missing
-    four_ways(rt, &stripe, 32, 32)?;
+    four_ways(rt, stripe, 32, 32)?;
     for high in 0..stripe.drives() {
         for low in 0..=high {
-            four_ways(rt, &stripe, low, high)?;
+            four_ways(rt, stripe, low, high)?;
         }
     }
     Ok(())
@@ -37,18 +36,17 @@ fn every_set<C: Code>(rt: &impl Abort, code: &C, k: u8) -> Result<(), Fail> {
 
 #[test]
 fn every_code(rt: HostRuntime) -> Result<(), Fail> {
-    every_set(&rt, &ShiftCode, 5)?;
-    every_set(&rt, &ByteCode, 5)?;
+    every_set(&rt, &Stripe::codeword(&ShiftCode, 5)?)?;
+    every_set(&rt, &Stripe::codeword(&ByteCode, 5)?)?;
     let matrix = MatrixCode::new(Generator::fresh());
     for k in 1..4 {
-        every_set(&rt, &matrix, k)?;
+        every_set(&rt, &Stripe::codeword(&matrix, k)?)?;
     }
     Ok(())
 }
 
 // The most columns that a code takes: every pair of them is recovered from an image, where one is marked and one is pulled.
-fn widest<C: Code>(rt: &impl Abort, code: &C, k: u8) -> Result<(), Fail> {
-    let stripe = Stripe::codeword(code, k)?;
+fn widest<C: Code>(rt: &impl Abort, stripe: &Stripe<C>) -> Result<(), Fail> {
     let drives = stripe.drives();
     let mut memory = [0; 32768];
     if drives > 32 {
@@ -73,8 +71,8 @@ fn widest<C: Code>(rt: &impl Abort, code: &C, k: u8) -> Result<(), Fail> {
 
 #[test]
 fn widest_racks(rt: HostRuntime) -> Result<(), Fail> {
-    widest(&rt, &ShiftCode, 17)?;
-    widest(&rt, &ByteCode, 30)
+    widest(&rt, &Stripe::codeword(&ShiftCode, 17)?)?;
+    widest(&rt, &Stripe::codeword(&ByteCode, 30)?)
 }
 
 // Two racks side by side, with drives pulled in one or in both.

@@ -10,6 +10,7 @@ use test_bytes::fill;
 // The stripe that the racks hold the codeword in; they have two.
 pub const STRIPE: u32 = 1;
 
+// Not recovery's own marks: a test doesn't rest on what it tests.
 pub fn bit(column: u8) -> u32 {
     if column < 32 { 1 << column } else { 0 }
 }
@@ -26,6 +27,7 @@ pub struct Gone {
 }
 
 // The columns of a stripe in a code: at most 32, of which `k` are data.
+// Fixed arrays, of which a part is taken: a `Vec` would need the allocator in each helper.
 #[derive(Drop)]
 pub struct Stripe<'a, C: Code> {
     pub code: &'a C,
@@ -53,25 +55,21 @@ impl<'a, C: Code> Stripe<'a, C> {
     }
 
     fn data(&self) -> Result<&[u8], Fail> {
-        match self.columns.get(..usize::from(self.k)) {
-            Some(columns) => Ok(columns.as_flattened()),
-            None => Err(Fail::new("too many columns")),
-        }
+        let columns = self.columns.get(..usize::from(self.k));
+        columns
+            .map(|columns| columns.as_flattened())
+            .ok_or_else(|| Fail::new("too many columns"))
     }
 
     pub fn set_column(&mut self, column: u8, block: &Block) -> Result<(), Fail> {
-        if column >= 32 {
-            return Err(Fail::new("no such column"));
-        }
-        self.columns[usize::from(column)] = *block;
+        let place = self.columns.get_mut(usize::from(column));
+        *place.ok_or_else(|| Fail::new("no such column"))? = *block;
         Ok(())
     }
 
     pub fn column(&self, column: u8) -> Result<&Block, Fail> {
-        match self.columns.get(usize::from(column)) {
-            Some(block) => Ok(block),
-            None => Err(Fail::new("no such column")),
-        }
+        let block = self.columns.get(usize::from(column));
+        block.ok_or_else(|| Fail::new("no such column"))
     }
 
     // How many drives hold it.
@@ -110,11 +108,12 @@ impl<'a, C: Code> Stripe<'a, C> {
             buf == *self.column(column)?,
             "the block of width {width}, column {column}, marks {marks}"
         );
-        self.knows(rt, column, gone, known)
+        self.knows(rt, column, gone, known);
+        Ok(())
     }
 
     // The columns that are missing after a column was recovered are right.
-    fn knows(&self, rt: &impl Abort, column: u8, gone: Gone, known: u32) -> Result<(), Fail> {
+    fn knows(&self, rt: &impl Abort, column: u8, gone: Gone, known: u32) {
         let width = self.code.width();
         let Gone { marks, silent } = gone;
         assert_eq!(rt;
@@ -133,7 +132,7 @@ impl<'a, C: Code> Stripe<'a, C> {
                 marks,
                 "width {width}, column {column}: others were read"
             );
-            return Ok(());
+            return;
         }
         // it takes all the data that is left
         let data = bit(self.k).wrapping_sub(1);
@@ -143,7 +142,6 @@ impl<'a, C: Code> Stripe<'a, C> {
             needed,
             "width {width}, column {column}: a drive that was read is not marked"
         );
-        Ok(())
     }
 
     // Stores the columns but for those in `lost`, pulls the drives in `pulled`, and recovers every column with the others in `lost` as marks.

@@ -1,4 +1,4 @@
-use Rattle.std.proofs.Common.{◌≡◌, refl, ◌∙◌, subst, arith}
+use Rattle.std.proofs.Common.{◌≡◌, refl, ◌∙◌, subst, arith, rules}
 use Rattle.parity.specs.Codeword.{Fits}
 use Rattle.stripes.specs.Recovery.{stray_mark}
 use Rattle.stripes.proofs.recovery.permit.Goals as goal
@@ -13,8 +13,8 @@ returns-in-Some g c =
     stray_mark c.in-Some.drive refl
     (record {
       fits = subst (λ v. Fits v n N) size c.if-not-fits.ensures;
-      some = omega (arith, c.blocks-blocks.ensures, c.if-blocks-lt1.false);
-      few = omega (arith, c.blocks-blocks.ensures, c.if-blocks-gt65536.false);
+      some = search rules;
+      few = search rules;
     })
     (omega (arith, c.blocks-blocks.ensures, c.if-stripe-blocks.false)) (omega (arith, c.drives-drives.ensures, c.if-column-drives.false))
     (omega (arith, c.drives-drives.ensures, found.0)) found.1 (λ i le lt. found.2 i (omega (arith, c.drives-drives.ensures)) lt)
