@@ -23,9 +23,6 @@ returns-in-Some-clause-solves g c =
           (told.fetched.3 ∙ holds K (omega (arith, a.spans.drives)) told.fetched.2) c.add.ensures,
     )
 
-pub returns-in_err-block-clause-continues : goal.returns-in_err-block-clause-continues
-returns-in_err-block-clause-continues g c = continues_trans c.args.self.now c.fetch.new.self c.fetch-2.new.self c.fetch.ensures.continues c.fetch-2.ensures.continues
-
 pub returns-in_err-block-clause-solves : goal.returns-in_err-block-clause-solves
 returns-in_err-block-clause-solves g c =
     let a = c.args.self.now in
