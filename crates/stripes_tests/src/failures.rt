@@ -116,6 +116,7 @@ fn any_three<C: Code>(rt: &impl Abort, stripe: &Stripe<C>, marks: u32) -> Result
 
 fn any_marks<C: Code>(rt: &impl Abort, stripe: &Stripe<C>) -> Result<(), Fail> {
     any_three(rt, stripe, 0)?;
+    // Each pair, a column with itself too. Two loops wherever pairs are met: a function can't hand out an `impl Iterator`.
     for high in 0..stripe.drives() {
         for low in 0..=high {
             any_three(rt, stripe, bit(low) | bit(high))?;

@@ -26,6 +26,7 @@ fn four_ways<C: Code>(rt: &impl Abort, stripe: &Stripe<C>, low: u8, high: u8) ->
 fn every_set<C: Code>(rt: &impl Abort, stripe: &Stripe<C>) -> Result<(), Fail> {
     // no column 32 is missing
     four_ways(rt, stripe, 32, 32)?;
+    // Each pair, a column with itself too. Two loops wherever pairs are met: a function can't hand out an `impl Iterator`.
     for high in 0..stripe.drives() {
         for low in 0..=high {
             four_ways(rt, stripe, low, high)?;
