@@ -5,7 +5,8 @@ ghost use Rattle.cyclic.specs.Maps.{power, Lawful};
 use crate::wordwise::{map_bytes, map_words};
 use blocks::Block;
 
-// A code is a plain value: a width, an order, and a map of words that applied as many times as the order gives every word back.
+// A code is a plain value: a width, an order, and a map of words that applied as many times as the order gives every word back. Contracts
+// name the three one by one, and not as a record: the theorems speak of plain n, N and g.
 pub trait Code: Copy {
     // the width of a word, in bits
     ghost bits: { Self → ℕ };
