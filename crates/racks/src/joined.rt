@@ -129,6 +129,8 @@ impl<A: ReadingRack, B: ReadingRack> ReadingRack for JoinedRack<A, B> {
     }
 }
 
+// Beyond the trait, each call that changes a rack says in two lines, by relations with a name, that the racks agree as before and whose
+// drive it was.
 impl<A: Rack, B: Rack> Rack for JoinedRack<A, B> {
     #[tactic(auto, using(crate::proofs::Sides::write_first, crate::proofs::Sides::write_second))]
     fn write(&mut self, drive: u8, block: u32, buf: &[u8]) -> Result<(), Refusal>

@@ -22,7 +22,7 @@ pub trait ReadingRack {
     fn blocks(&self) -> u32
         ensures { result ≡ (meaning self.now).blocks };
 
-    // A drive's state.
+    // A drive's state. (Each rack tests the number itself: it is one line, and what it then looks up is its own.)
     fn state(&self, drive: u8) -> Result<DriveState, Refusal>
         ensures { StateAnswer (meaning self.now) drive result };
 
