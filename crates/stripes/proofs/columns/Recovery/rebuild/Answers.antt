@@ -26,9 +26,6 @@ returns-in_err-pair-in-Two-clause-rebuilds g c =
     (two_none c.args.self.now c.fetch.new.self c.gather.new.self c.args.column c.in_ok-found.found asked.continues asked.fetched.joins found.continues found.gathers c.solve_two.new.self c.solve_two.ensures.continues
     c.in-Two.low c.in-Two.high c.in-Two.is c.in_err-pair-in-Two.ensures.solves)
 
-pub returns-then-column-self-clause-continues : goal.returns-then-column-self-clause-continues
-returns-then-column-self-clause-continues g c = continues_trans c.args.self.now c.fetch.new.self c.gather.new.self c.fetch.ensures.continues c.gather.ensures.continues
-
 pub returns-then-column-self-clause-rebuilds : goal.returns-then-column-self-clause-rebuilds
 returns-then-column-self-clause-rebuilds g c =
     let asked = c.in_default.ensures in
