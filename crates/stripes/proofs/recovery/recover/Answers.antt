@@ -1,7 +1,7 @@
 use Rattle.std.proofs.Common.{◌≡◌, ◌-◌, rules, refl, ◌∙◌}
 use Rattle.racks.proofs.Uses.{same_refl}
 use Rattle.parity.specs.Blocks.{IsBlock}
-use Rattle.stripes.specs.Recovery.{RecoveredBlock, unlawful, too_many}
+use Rattle.stripes.specs.Recovery.{RecoveredBlock, unlawful}
 use Rattle.stripes.specs.Touches.{columns_of}
 use Rattle.stripes.proofs.Answering.{column_of_codeword, column_of_encoded}
 use Rattle.stripes.proofs.Covers.{fillings}
@@ -18,11 +18,6 @@ returns-in-Err-clause-fillings g c =
 pub returns-then-too_many-clause-fillings : goal.returns-then-too_many-clause-fillings
 returns-then-too_many-clause-fillings g c =
     fillings (g.C.Code.bits c.args.code.now) (g.C.Code.period c.args.code.now) (g.C.Code.map c.args.code.now) (g.met.C.Code.wide c.args.code.now).0 (g.met.C.Code.turns c.args.code.now).0 (g.met.C.Code.lawful c.args.code.now)
-
-pub returns-in-None-clause-answer : goal.returns-in-None-clause-answer
-returns-in-None-clause-answer g c =
-    let told = c.in-None.ensures in
-    let law = rw c.from-marked.ensures at c.in_default.ensures in (too_many refl law (search rules) (search rules), refl)
 
 pub returns-in-None-clause-fillings : goal.returns-in-None-clause-fillings
 returns-in-None-clause-fillings g c =

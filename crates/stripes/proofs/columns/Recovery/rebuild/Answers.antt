@@ -33,9 +33,6 @@ returns-then-column-self-clause-rebuilds g c =
     parity_p c.args.self.now c.fetch.new.self c.gather.new.self c.args.column c.in_ok-found.found asked.continues asked.fetched.joins found.continues found.gathers
     c.in-None.is c.if-column-self.true
 
-pub returns-else-column-self-clause-continues : goal.returns-else-column-self-clause-continues
-returns-else-column-self-clause-continues g c = continues_trans c.args.self.now c.fetch.new.self c.gather.new.self c.fetch.ensures.continues c.gather.ensures.continues
-
 pub returns-else-column-self-clause-rebuilds : goal.returns-else-column-self-clause-rebuilds
 returns-else-column-self-clause-rebuilds g c =
     let asked = c.in_default.ensures in
