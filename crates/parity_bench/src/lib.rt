@@ -11,7 +11,7 @@ use parity::{Block, WordMap, encode};
 // Ten columns of data.
 type Columns = [u8; 5120];
 
-// Fills P and Q.
+// Fills P and Q. A `bool`, since C has no Result.
 fn encode_ten<C: Code>(code: &C, columns: &Columns, p: &mut Block, q: &mut Block) -> bool
     ensures { Encodes (C.bits code.now) (C.period code.now) (C.map code.now) columns.now p.old q.old result p.new q.new }
 {

@@ -44,7 +44,8 @@ fn permit<R: ReadingRack, C: Code>(
 
 // Recovers a column of a stripe into `buf`. `missing` marks the columns that are known to be missing; these are not read. The answer is the
 // result and the missing columns as known afterwards: a column joins them only because its drive did not answer. Each column is read at most
-// once, and none after more than two are missing. By a rule of this repository callers keep the missing columns as a number of 32 bits.
+// once, and none after more than two are missing. By a rule of this project callers keep the missing columns as a number of 32 bits, and get
+// this pair.
 pub fn recover<R: ReadingRack, C: Code>(
     rack: &mut R,
     code: &C,

@@ -9,7 +9,8 @@ use parity::{Block, encode};
 use racks::ImageRack;
 use stripes::recover;
 
-// The same as in parity_bench: two libraries that export the same C names cannot stand on one another.
+// The same as in parity_bench: two libraries that export the same C names cannot stand on one another. A `bool`, since C has no Result; so
+// is what `recover_of_twelve` answers.
 fn encode_ten<C: Code>(code: &C, data: &[u8; 5120], p: &mut Block, q: &mut Block) -> bool
     ensures { Encodes (C.bits code.now) (C.period code.now) (C.map code.now) «data».now p.old q.old result p.new q.new }
 {
