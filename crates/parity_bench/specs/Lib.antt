@@ -1,2 +1,1 @@
-pub mod Encodes
 pub mod Maps

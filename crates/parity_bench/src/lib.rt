@@ -2,21 +2,12 @@
 #![tactic(auto)]
 
 ghost use Rattle.codes.specs.Doubling.{shift, double};
-ghost use Rattle.parity_bench.specs.Encodes.{Encodes};
 ghost use Rattle.parity_bench.specs.Maps.{Maps};
+ghost use Rattle.shared_bench.specs.Encodes.{Encodes};
 
 use codes::{ByteCode, Code, ShiftCode};
-use parity::{Block, WordMap, encode};
-
-// Ten columns of data.
-type Columns = [u8; 5120];
-
-// Fills P and Q. A `bool`, since C has no Result.
-fn encode_ten<C: Code>(code: &C, columns: &Columns, p: &mut Block, q: &mut Block) -> bool
-    ensures { Encodes (C.bits code.now) (C.period code.now) (C.map code.now) columns.now p.old q.old result p.new q.new }
-{
-    encode(code, 10, columns, p, q).is_ok()
-}
+use parity::{Block, WordMap};
+use shared_bench::{Columns, encode_ten};
 
 // A power and the map that undoes 1 + g^z, prepared and applied to a block.
 fn maps<C: Code>(code: &C, z: u8, block: &mut Block)

@@ -1,14 +1,9 @@
--- P and Q filled in from ten columns, and a column recovered from twelve that stand one after the other.
+-- Twelve columns that stand one after the other, and a column recovered from them.
 use Rattle.std.specs.Prelude.{◌≡◌, ℕ, ◌*◌, Bool, List, MatchBool}
 use Rattle.racks.specs.declared.DriveState.TheVariants.{Live}
 use Rattle.racks.specs.Meaning.{Meaning}
 use Rattle.racks.specs.Layout.{block_at}
-use Rattle.parity.specs.Encoding.{Encoded}
 use Rattle.stripes.specs.Recovery.{Accepted}
-
--- True says that P and Q were filled in; else both are as they were.
-abbrev pub Encodes : (n N : ℕ) → (ℕ → ℕ) → (bytes p q : List ℕ) → Bool → (p' q' : List ℕ) → Type 0
-Encodes n N g bytes p q r p' q' = MatchBool r (Encoded n N g 10 bytes p q p' q') ((p' ≡ p) × (q' ≡ q))
 
 -- The columns as live drives of one block each.
 pub record Held (columns : List ℕ) (m : Meaning) : Type 0 where

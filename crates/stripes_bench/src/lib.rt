@@ -2,22 +2,16 @@
 #![tactic(auto)]
 
 ghost use Rattle.codes.specs.Doubling.{shift, double};
-ghost use Rattle.stripes_bench.specs.Columns.{Answers, Encodes};
+ghost use Rattle.shared_bench.specs.Encodes.{Encodes};
+ghost use Rattle.stripes_bench.specs.Columns.{Answers};
 
 use codes::{ByteCode, Code, ShiftCode};
-use parity::{Block, encode};
+use parity::Block;
 use racks::ImageRack;
+use shared_bench::{Columns, encode_ten};
 use stripes::recover;
 
-// The same as in parity_bench: two libraries that export the same C names cannot stand on one another. A `bool`, since C has no Result; so
-// is what `recover_of_twelve` answers.
-fn encode_ten<C: Code>(code: &C, data: &[u8; 5120], p: &mut Block, q: &mut Block) -> bool
-    ensures { Encodes (C.bits code.now) (C.period code.now) (C.map code.now) «data».now p.old q.old result p.new q.new }
-{
-    encode(code, 10, data, p, q).is_ok()
-}
-
-// The twelve columns are drives of one block each.
+// The twelve columns are drives of one block each. It answers a `bool`, since C has no Result.
 fn recover_of_twelve<C: Code>(
     code: &C,
     columns: &[u8; 6144],
@@ -34,14 +28,14 @@ fn recover_of_twelve<C: Code>(
 
 // C has neither generic functions nor a Result: so a name for each code, and whether it was done.
 #[unsafe(no_mangle)]
-pub extern "C" fn rotyague_encode_byte(data: &[u8; 5120], p: &mut Block, q: &mut Block) -> bool
+pub extern "C" fn rotyague_encode_byte(data: &Columns, p: &mut Block, q: &mut Block) -> bool
     ensures { Encodes 8 255 double «data».now p.old q.old result p.new q.new }
 {
     encode_ten(&ByteCode, data, p, q)
 }
 
 #[unsafe(no_mangle)]
-pub extern "C" fn rotyague_encode_shift(data: &[u8; 5120], p: &mut Block, q: &mut Block) -> bool
+pub extern "C" fn rotyague_encode_shift(data: &Columns, p: &mut Block, q: &mut Block) -> bool
     ensures { Encodes 16 17 shift «data».now p.old q.old result p.new q.new }
 {
     encode_ten(&ShiftCode, data, p, q)
