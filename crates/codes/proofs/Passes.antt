@@ -46,12 +46,13 @@ pub record WordsDone (R : ℕ → ℕ → Type 0) (before after : List ℕ) (i :
   pub done : (k : ℕ) → k < i → R (word 16 before k) (word 16 after k)
   pub rest : (k : ℕ) → 2 * i ≤ k → get_or after k 0 ≡ get_or before k 0
 
+-- a word of two bytes
+pub halves : (a b : ℕ) → a < 256 → b < 256 → a + b * 256 ≡ b % 256 * 256 + a % 256
+halves a b la lb = omega arith
+
 -- a word that is read from its two bytes
 pub word_read : (i : ℕ) (block : List ℕ) → ((k : ℕ) → get_or block k 0 < 256) → get_or block (2 * i) 0 + get_or block (2 * i + 1) 0 * 256 ≡ word 16 block i
 word_read i block bytes = halves (get_or block (2 * i) 0) (get_or block (2 * i + 1) 0) (bytes (2 * i)) (bytes (2 * i + 1)) ∙ sym (word_16 i block)
-  where
-    halves : (a b : ℕ) → a < 256 → b < 256 → a + b * 256 ≡ b % 256 * 256 + a % 256
-    halves a b la lb = omega arith
 
 module _ (R : ℕ → ℕ → Type 0) (before after : List ℕ) (i : ℕ) (lt : 2 * i + 1 < length before) (so_far : WordsDone R before after i)
     (w : ℕ) (word_fits : w < 2 ^ 16) (is : R (word 16 before i) w) where

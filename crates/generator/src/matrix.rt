@@ -49,7 +49,12 @@ fn combine(row: u16, matrix: Matrix) -> u16
 pub fn product(a: Matrix, b: Matrix) -> Matrix
     ensures { (x : ℕ) → image_of result x ≡ image_of a (image_of b x) }
 {
-    a.map(|row| combine(row, b))
+    // Not `a.map(..)`: by it a product took four times as long.
+    let mut rows = a;
+    for row in rows.iter_mut() {
+        *row = combine(*row, b);
+    }
+    rows
 }
 
 // The matrix applied `exponent` times.

@@ -1,5 +1,5 @@
 -- What a write of a block leaves in a flat memory.
-use Rattle.std.proofs.Common.{◌≡◌, ℕ, ◌+◌, ◌-◌, ◌*◌, ◌/◌, ◌%◌, ◌<◌, ◌≤◌, List, ◌++◌, length, take, drop, sym, refl, ap, ◌∙◌, inl, inr, arith}
+use Rattle.std.proofs.Common.{◌≡◌, ℕ, ◌+◌, ◌-◌, ◌*◌, ◌/◌, ◌%◌, ◌<◌, ◌≤◌, List, ◌++◌, length, take, drop, sym, refl, ap, subst, ◌∙◌, inl, inr, arith}
 use Rattle.std.proofs.lemmas.List.{length-drop, length-append, length-take-le, take_at, drop_at, take-append-le, drop-append-le, drop-drop, take-take}
 use Rattle.std.proofs.lemmas.Slice.{between_is}
 use Rattle.std.proofs.lemmas.Bool.{cases_order}
@@ -66,6 +66,11 @@ block_other D B m buf d b k j holds size hd hb hk hj ne =
         | inr gt ↦ block_above m buf (start B d b) within size (start B k j) (omega arith)
       ]
     ]
+
+-- A block that is there lies within the bytes.
+pub block_within : (D B C d b n : ℕ) → C ≡ blocks_of D B n → d < drives_of D B n → b < blocks_of D B n → start C d b + 512 ≤ n
+block_within D B C d b n fit hd hb =
+    subst (λ k. start k d b + 512 ≤ n) (sym fit) (start_within (drives_of D B n) (blocks_of D B n) d b n (room D B n).holds hd hb)
 
 -- A write to the memory of a flat rack is the write of a rack.
 pub flat_written : (D B C : ℕ) (m m' buf : List ℕ) (s : ℕ → DriveState) (d b : ℕ) → Open (flat D B m s) d b (length buf) →

@@ -16,12 +16,13 @@ abbrev pub state_of : FlatRack → ℕ → DriveState
 state_of f d = slice_index_or f.states d Live
 
 abbrev pub flat_meaning : FlatRack → Meaning
-flat_meaning f = flat f.layout.drives f.layout.blocks (memory_of f) (state_of f)
+flat_meaning f = flat f.drives f.blocks (memory_of f) (state_of f)
 
 -- The same piece of memory, taken for as many drives of as many blocks.
 pub record Stays (f f' : FlatRack) : Type 0 where
   pub lender : f'.memory.ghost_name ≡ f.memory.ghost_name
-  pub layout : f'.layout ≡ f.layout
+  pub drives : f'.drives ≡ f.drives
+  pub blocks : f'.blocks ≡ f.blocks
 
 -- A read is accepted wherever it is lawful and the drive is live, and changes nothing at all.
 pub record FlatRead (f : FlatRack) (d b : ℕ) (buf : List ℕ) (r : Result Unit Refusal) (f' : FlatRack) : Type 0 where

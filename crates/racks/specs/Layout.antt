@@ -1,5 +1,5 @@
 -- The flat layout: drive after drive and block after block in one row of bytes.
-use Rattle.std.specs.Prelude.{◌≡◌, ℕ, ◌+◌, ◌*◌, Bool, cond, ◌&&◌, List, ◌++◌, length, take, drop, ◌==◌, nat_le}
+use Rattle.std.specs.Prelude.{ℕ, ◌+◌, ◌*◌, Bool, cond, ◌&&◌, List, ◌++◌, length, take, drop, ◌==◌, nat_le}
 use Rattle.racks.specs.declared.DriveState.{DriveState}
 use Rattle.racks.specs.Meaning.{Meaning}
 
@@ -13,10 +13,6 @@ drives_of D B bytes = cond (fits D B bytes) D 0
 
 abbrev pub blocks_of : (D B bytes : ℕ) → ℕ
 blocks_of D B bytes = cond (fits D B bytes) B 0
-
--- So many drives of so many blocks, or none at all, are laid out in so many bytes: they have no other sizes when they are asked for.
-abbrev pub IsLaidOut : (D B bytes : ℕ) → Type 0
-IsLaidOut D B bytes = (drives_of D B bytes ≡ D) × (blocks_of D B bytes ≡ B)
 
 -- where block b of drive d begins, with B blocks to a drive
 abbrev pub start : (B d b : ℕ) → ℕ

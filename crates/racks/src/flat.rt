@@ -1,6 +1,6 @@
 // The flat rack: drives that are parts of the caller's memory.
 ghost use Rattle.std.specs.Prelude.{◌≡◌, length};
-ghost use Rattle.racks.specs.Layout.{IsLaidOut, drives_of, blocks_of};
+ghost use Rattle.racks.specs.Layout.{drives_of, blocks_of};
 
 use crate::DriveState;
 use crate::layout::Layout;
@@ -9,14 +9,15 @@ use blocks::MAX_DRIVES;
 use refusals::Refusal;
 
 // The blocks of drive 0 lie first in the memory, then those of drive 1, and so on. No drive ever fails, and a drive that is fitted
-// again holds what it held.
+// again holds what it held. The layout is made anew for each call: with a ghost field that says that it fits, an array of two flat racks
+// over memory of two lifetimes would not be covered by the borrow checker.
 #[derive(Drop)]
 pub struct FlatRack<'a> {
     memory: &'a mut [u8],
-    layout: Layout,
+    drives: u8,
+    blocks: u32,
     // `as`, since the length of an array calls no function.
     states: [DriveState; MAX_DRIVES as usize],
-    ghost laid_out: { IsLaidOut layout.drives layout.blocks (length memory.now) },
 }
 
 impl<'a> FlatRack<'a> {
@@ -33,8 +34,9 @@ impl<'a> FlatRack<'a> {
         ensures lender { result.memory.ghost_name ≡ memory.entry.ghost_name }
     {
         FlatRack {
-            layout: Layout::of(drives, blocks, memory.len()),
             memory,
+            drives,
+            blocks,
             states: [DriveState::Live; MAX_DRIVES as usize],
         }
     }
@@ -46,6 +48,13 @@ impl<'a> FlatRack<'a> {
     {
         let FlatRack { memory, .. } = self;
         memory
+    }
+
+    fn layout(&self) -> Layout
+        ensures drives { result.drives ≡ (flat_meaning self.now).drives }
+        ensures blocks { result.blocks ≡ (flat_meaning self.now).blocks }
+    {
+        Layout::of(self.drives, self.blocks, self.memory.len())
     }
 
     // The memory behind a `&`, so that the proof of `read` sees that it stays as it is.
@@ -63,14 +72,14 @@ impl ReadingRack for FlatRack<'_> {
 
     ghost meaning = { flat_meaning };
 
-    ghost sized = { λ r. flat_sized r.layout.drives r.layout.blocks (memory_of r) (state_of r) };
+    ghost sized = { λ r. flat_sized r.drives r.blocks (memory_of r) (state_of r) };
 
     fn drives(&self) -> u8 {
-        self.layout.drives
+        self.layout().drives
     }
 
     fn blocks(&self) -> u32 {
-        self.layout.blocks
+        self.layout().blocks
     }
 
     fn state(&self, drive: u8) -> Result<DriveState, Refusal> {
@@ -85,7 +94,7 @@ impl ReadingRack for FlatRack<'_> {
         ensures own { FlatRead self.old drive block buf.old result self.new }
     {
         self.admit(drive, block, buf.len())?;
-        self.layout.load(self.bytes(), drive, block, buf);
+        self.layout().load(self.bytes(), drive, block, buf);
         Ok(())
     }
 }
@@ -99,7 +108,7 @@ impl Rack for FlatRack<'_> {
         ensures own { FlatWrite self.old drive block buf.now result self.new }
     {
         self.admit(drive, block, buf.len())?;
-        self.layout.store(self.memory, drive, block, buf);
+        self.layout().store(self.memory, drive, block, buf);
         Ok(())
     }
 

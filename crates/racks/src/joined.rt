@@ -69,15 +69,17 @@ impl<A: ReadingRack, B: ReadingRack> JoinedRack<A, B> {
     fn side(&self, drive: u8) -> Result<Side, Refusal>
         ensures { SideAnswer self.now.agreed (A.meaning self.now.first) (B.meaning self.now.second) drive result }
     {
-        if drive >= self.drives() {
-            return Err(Refusal::NoDrive { drive });
+        // Not `self.drives()`: that would ask both racks for every drive, and the first one twice.
+        if self.agreed && drive < MAX_DRIVES {
+            let split = self.first.drives();
+            if drive < split {
+                return Ok(Side::First(drive));
+            }
+            if drive - split < self.second.drives() {
+                return Ok(Side::Second(drive - split));
+            }
         }
-        let split = self.first.drives();
-        if drive < split {
-            Ok(Side::First(drive))
-        } else {
-            Ok(Side::Second(drive - split))
-        }
+        Err(Refusal::NoDrive { drive })
     }
 }
 

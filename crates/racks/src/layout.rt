@@ -4,8 +4,8 @@ ghost use Rattle.racks.specs.Layout.{start, block_at, stored_at, drives_of, bloc
 
 use blocks::{BLOCK_SIZE, MAX_BLOCKS, MAX_DRIVES};
 
-// How many drives of how many blocks lie in a row of bytes. That they fit the bytes is a ghost field of the flat rack and not of the
-// layout: a `&mut` beside a struct with a ghost field cannot stand for a type parameter of a struct (the borrow checker does not cover it).
+// How many drives of how many blocks lie in a row of bytes. A rack makes it anew for each call and does not hold it: that it fits the bytes
+// would be a ghost field beside the rack's reference, which the borrow checker does not cover wherever a rack may stand.
 #[derive(Clone, Copy)]
 pub struct Layout {
     pub drives: u8,

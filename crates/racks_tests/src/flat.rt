@@ -91,3 +91,16 @@ fn pull_and_fit(rt: HostRuntime) -> Result<(), Fail> {
     assert_eq!(rt; DriveState::Pulled.number(), 2);
     Ok(())
 }
+
+// Racks over memory that two callers lend, side by side in one array.
+fn pulls_second(left: &mut [u8], right: &mut [u8]) -> bool {
+    let mut racks = [FlatRack::new(left, 2, 1), FlatRack::new(right, 2, 1)];
+    racks[1].pull(0).is_ok()
+}
+
+#[test]
+fn racks_in_an_array(rt: HostRuntime) {
+    let mut left = [1; 1024];
+    let mut right = [2; 1024];
+    assert!(rt; pulls_second(&mut left, &mut right));
+}

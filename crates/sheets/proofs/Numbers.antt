@@ -76,10 +76,10 @@ ends_number end v place text rest low h e at before =
       ]
     ]
 
--- the byte end stands nowhere
-pub no_end : (end : ℕ) (text : List ℕ) → ((k : ℕ) → k < length text → get_or text k 0 ≢ end) → NoNumber end text
+-- the byte end is none of the first four
+pub no_end : (end : ℕ) (text : List ℕ) → ((k : ℕ) → k < 4 → k < length text → get_or text k 0 ≢ end) → NoNumber end text
 no_end end text none v rest h e =
-    none (length (decimal v)) (omega (arith, ap length e, length-append (decimal v) (end ∷ rest)))
+    none (length (decimal v)) (omega (arith, (numeral v h).few)) (omega (arith, ap length e, length-append (decimal v) (end ∷ rest)))
     (ap (λ x. get_or x (length (decimal v)) 0) e ∙ get_or-append_seam (decimal v) end rest 0)
 
 -- what stands before the first byte end is no number

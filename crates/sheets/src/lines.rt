@@ -36,12 +36,13 @@ fn bits(columns: &[u8]) -> Option<u16>
     Some(row)
 }
 
-// The number at the front of the text, and what follows the byte `end` behind it, which is no digit.
+// The number at the front of the text, and what follows the byte `end` behind it, which is no digit. It has at most three digits, so that
+// the end is looked for in four bytes alone, however long the text.
 fn number(text: &[u8], end: u8) -> Option<(u16, &[u8])>
     requires { end < 48 }
     ensures { MatchOption result (NoNumber end text.now) (λ p. (p.0 < 1000) × (text.now ≡ decimal p.0 ++ end ∷ p.1.now)) }
 {
-    let place = text.iter().position(|byte| *byte == end)?;
+    let place = text.iter().take(4).position(|byte| *byte == end)?;
     Some((decimal(&text[..place])?, &text[place + 1..]))
 }
 
