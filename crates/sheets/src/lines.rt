@@ -31,9 +31,20 @@ fn bits(columns: &[u8]) -> Option<u16>
 {
     let mut row = 0;
     for column in columns.iter().rev() {
-        row = 2 * row + digit(*column, 2)?;
+        row = 2 * row + bit(*column)?;
     }
     Some(row)
+}
+
+// A column. Not `digit(byte, 2)`: by it a sheet took half as long again to read.
+fn bit(byte: u8) -> Option<u16>
+    ensures { MatchOption result ((b : ℕ) → b < 2 → byte ≢ 48 + b) (λ b. (b < 2) × (byte ≡ 48 + b)) }
+{
+    match byte {
+        b'0' => Some(0),
+        b'1' => Some(1),
+        _ => None,
+    }
 }
 
 // The number at the front of the text, and what follows the byte `end` behind it, which is no digit. It has at most three digits, so that
